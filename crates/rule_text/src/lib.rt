@@ -1,0 +1,48 @@
+// Rule texts: reading one into a rule.
+ghost use mathlib.Core.Path.{_≡_};
+ghost use Rattle.std.specs.Of.Vec.{vec-items};
+ghost use Rattle.std.specs.Results.{Cases};
+
+mod names;
+mod reader;
+mod words;
+
+pub use names::Entry;
+pub use names::MAX_NAMES;
+use refusals::Fault;
+use refusals::Refusal;
+use rules::Rule;
+use words::Word;
+
+// A text has at most this many bytes.
+pub const MAX_TEXT: usize = 4096;
+
+// Reads a text, with these names, into the rule, or says its first fault and leaves the rule as it was.
+pub fn read(names: &[Entry], text: &[u8], rule: &mut Rule) -> Result<(), Fault>
+    ensures { λ r. ⌜ Cases r (λ _. Unit {0}) (λ _. vec-items (now (rule .exit) .nodes) ≡ vec-items (now (rule .entry) .nodes)) ⌝ }
+{
+    names::check_names(names)?;
+    if text.len() > MAX_TEXT {
+        return Err(Fault {
+            refusal: Refusal::TextTooLong,
+            place: MAX_TEXT,
+        });
+    }
+    rule.draft.clear();
+    let rest = reader::choice(names, text.len(), text, 0, &mut rule.draft)?;
+    let last = words::next_word(text.len(), rest)?;
+    let Word::End = last.word else {
+        return Err(Fault {
+            refusal: Refusal::Misplaced,
+            place: last.place,
+        });
+    };
+    if rule.adopt() {
+        Ok(())
+    } else {
+        Err(Fault {
+            refusal: Refusal::TooManyNodes,
+            place: text.len(),
+        })
+    }
+}

@@ -1,0 +1,169 @@
+// The reader: the grammar's four levels, each a function that adds what it reads to a draft.
+ghost use Prim.Native.Nat.{_≤_, _<_};
+ghost use lib.ListN.{length};
+ghost use Rattle.std.specs.Results.{Cases};
+ghost use Rattle.std.specs.Vec.{made};
+use crate::names::Entry;
+use crate::names::find;
+use crate::words::Word;
+use crate::words::next_word;
+use refusals::Fault;
+use refusals::Refusal;
+use rules::Draft;
+use rules::Join;
+use rules::Shape;
+
+// Brackets stand at most this deep.
+const MAX_DEPTH: usize = 16;
+
+// The test that a name stands for.
+fn test_of(names: &[Entry], name: &[u8], place: usize) -> Result<u8, Fault>
+    requires { ⌜ length (now names) ≤ 128 ⌝ }
+    ensures { λ r. ⌜ made r (λ t. t < length (now (names .entry))) ⌝ }
+{
+    match find(names, name) {
+        Some(t) => Ok(t as u8),
+        None => Err(Fault {
+            refusal: Refusal::UnknownName,
+            place,
+        }),
+    }
+}
+
+// The name after `!`: a leaf with the opposite of its test.
+fn opposite<'a>(
+    names: &[Entry],
+    whole: usize,
+    text: &'a [u8],
+    draft: &mut Draft,
+) -> Result<&'a [u8], Fault>
+    requires few { ⌜ length (now names) ≤ 128 ⌝ }
+    requires fits { ⌜ length (now text) ≤ whole ⌝ }
+    ensures { λ r. ⌜ made r (λ rest. length (now rest) < length (now (text .entry))) ⌝ }
+{
+    let next = next_word(whole, text)?;
+    let Word::Name(name) = next.word else {
+        return Err(Fault {
+            refusal: Refusal::Misplaced,
+            place: next.place,
+        });
+    };
+    draft.push(Shape::Leaf(names.len() as u8 + test_of(names, name, next.place)?));
+    Ok(next.rest)
+}
+
+// A choice: one chain, then any number of `|` and a chain.
+pub fn choice<'a>(
+    names: &[Entry],
+    whole: usize,
+    text: &'a [u8],
+    depth: usize,
+    draft: &mut Draft,
+) -> Result<&'a [u8], Fault>
+    requires few { ⌜ length (now names) ≤ 128 ⌝ }
+    requires fits { ⌜ length (now text) ≤ whole ⌝ }
+    requires shallow { ⌜ depth ≤ 16 ⌝ }
+    ensures { λ r. ⌜ made r (λ rest. length (now rest) < length (now (text .entry))) ⌝ }
+{
+    let mut rest = chain(names, whole, text, depth, draft)?;
+    loop {
+        let next = next_word(whole, rest)?;
+        let Word::Bar = next.word else {
+            return Ok(rest);
+        };
+        rest = chain(names, whole, next.rest, depth, draft)?;
+        draft.push(Shape::Join(Join::Choice));
+    }
+}
+
+// A chain: one or more items.
+fn chain<'a>(
+    names: &[Entry],
+    whole: usize,
+    text: &'a [u8],
+    depth: usize,
+    draft: &mut Draft,
+) -> Result<&'a [u8], Fault>
+    requires few { ⌜ length (now names) ≤ 128 ⌝ }
+    requires fits { ⌜ length (now text) ≤ whole ⌝ }
+    requires shallow { ⌜ depth ≤ 16 ⌝ }
+    ensures { λ r. ⌜ made r (λ rest. length (now rest) < length (now (text .entry))) ⌝ }
+{
+    let mut rest = item(names, whole, text, depth, draft)?;
+    loop {
+        let next = next_word(whole, rest)?;
+        let (Word::Name(_) | Word::Nil | Word::Void | Word::Bang | Word::Open) = next.word else {
+            return Ok(rest);
+        };
+        rest = item(names, whole, rest, depth, draft)?;
+        draft.push(Shape::Join(Join::Chain));
+    }
+}
+
+// An item: an atom, then any number of `*`.
+fn item<'a>(
+    names: &[Entry],
+    whole: usize,
+    text: &'a [u8],
+    depth: usize,
+    draft: &mut Draft,
+) -> Result<&'a [u8], Fault>
+    requires few { ⌜ length (now names) ≤ 128 ⌝ }
+    requires fits { ⌜ length (now text) ≤ whole ⌝ }
+    requires shallow { ⌜ depth ≤ 16 ⌝ }
+    ensures { λ r. ⌜ made r (λ rest. length (now rest) < length (now (text .entry))) ⌝ }
+{
+    let mut rest = atom(names, whole, text, depth, draft)?;
+    loop {
+        let next = next_word(whole, rest)?;
+        let Word::Star = next.word else {
+            return Ok(rest);
+        };
+        rest = next.rest;
+        draft.push(Shape::Repeat);
+    }
+}
+
+// An atom: a name, `!` and a name, `nil`, `void`, or a choice in brackets.
+fn atom<'a>(
+    names: &[Entry],
+    whole: usize,
+    text: &'a [u8],
+    depth: usize,
+    draft: &mut Draft,
+) -> Result<&'a [u8], Fault>
+    requires few { ⌜ length (now names) ≤ 128 ⌝ }
+    requires fits { ⌜ length (now text) ≤ whole ⌝ }
+    requires shallow { ⌜ depth ≤ 16 ⌝ }
+    ensures { λ r. ⌜ made r (λ rest. length (now rest) < length (now (text .entry))) ⌝ }
+{
+    let next = next_word(whole, text)?;
+    match next.word {
+        Word::Name(name) => draft.push(Shape::Leaf(test_of(names, name, next.place)?)),
+        Word::Nil => draft.push(Shape::Nil),
+        Word::Void => draft.push(Shape::Void),
+        Word::Bang => return opposite(names, whole, next.rest, draft),
+        Word::Open => {
+            if depth >= MAX_DEPTH {
+                return Err(Fault {
+                    refusal: Refusal::TooDeep,
+                    place: next.place,
+                });
+            }
+            let rest = choice(names, whole, next.rest, depth + 1, draft)?;
+            let last = next_word(whole, rest)?;
+            let Word::Close = last.word else {
+                return Err(Fault {
+                    refusal: Refusal::Misplaced,
+                    place: last.place,
+                });
+            };
+            return Ok(last.rest);
+        }
+        _ => return Err(Fault {
+            refusal: Refusal::Misplaced,
+            place: next.place,
+        }),
+    }
+    Ok(next.rest)
+}
