@@ -71,7 +71,8 @@ fn joined_size(nodes: &[Node]) -> Option<u16>
     if right as usize >= n {
         return None;
     }
-    Some(1 + (nodes[n - 1 - right as usize].size + right))
+    let left = nodes[n - 1 - right as usize].size;
+    Some(1 + (left + right))
 }
 
 // Whether the last node is the root of all.

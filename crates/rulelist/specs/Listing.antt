@@ -1,0 +1,59 @@
+-- What the program prints, byte for byte.
+use mathlib.Core.List.{List, [], _∷_, _++_}
+use Prim.Native.Nat.{ℕ, zero, suc}
+use lib.Chars.{codes}
+use lib.ListN.{getD}
+use Rattle.refusals.specs.declared.Fault.{Fault}
+use Rattle.refusals.specs.Table.{numberOf, layerOf, nameOf}
+use Rattle.rules.specs.declared.node.Join.the-variants.{Chain, Choice}
+use Rattle.rules.specs.declared.node.Node.{Node}
+use Rattle.rules.specs.declared.node.Shape.{Shape}
+use Rattle.rules.specs.declared.node.Shape.the-variants.{Void, Nil, Leaf, Join, Repeat}
+use Rattle.rules.specs.Nodes.{noNode}
+use Rattle.std.specs.Written.{decimal}
+use Rattle.std.specs.declared.option.Option.{Option}
+use Rattle.std.specs.declared.option.Option.the-variants.{Some, None}
+
+-- fields parted by one space, and a newline
+abbrev pub line : List (List ℕ) → List ℕ
+line [] = codes "\n"
+line (x ∷ []) = x ++ codes "\n"
+line (x ∷ y ∷ xs) = x ++ (codes " " ++ line (y ∷ xs))
+
+-- the word for a node's kind
+abbrev pub kindWord : Shape → List ℕ
+kindWord Void = codes "void"
+kindWord Nil = codes "nil"
+kindWord (Leaf t) = codes "leaf"
+kindWord (Join Chain) = codes "chain"
+kindWord (Join Choice) = codes "choice"
+kindWord Repeat = codes "repeat"
+
+-- a number, or `-` where there is none
+abbrev pub field : Option ℕ → List ℕ
+field None = codes "-"
+field (Some n) = decimal n
+
+-- the test of a leaf; other nodes have none
+abbrev pub testOf : Shape → Option ℕ
+testOf Void = None
+testOf Nil = None
+testOf (Leaf t) = Some t
+testOf (Join o) = None
+testOf Repeat = None
+
+abbrev pub header : List ℕ
+header = line (codes "node" ∷ codes "kind" ∷ codes "test" ∷ codes "size" ∷ codes "next" ∷ codes "far" ∷ [])
+
+-- the line of node i
+abbrev pub row : ℕ → Node → ℕ → Option ℕ → List ℕ
+row i n next far = line (decimal i ∷ kindWord (n .shape) ∷ field (testOf (n .shape)) ∷ decimal (n .size) ∷ decimal next ∷ field far ∷ [])
+
+-- the lines of the first k nodes
+abbrev pub rows : List Node → List ℕ → List (Option ℕ) → ℕ → List ℕ
+rows ns next far zero = []
+rows ns next far (suc k) = rows ns next far k ++ row k (getD ns k noNode) (getD next k 0) (getD far k None)
+
+-- the line of a fault
+abbrev pub faultLine : Fault → List ℕ
+faultLine f = line (codes "fault" ∷ decimal (numberOf (f .refusal)) ∷ nameOf (layerOf (f .refusal)) ∷ decimal (f .place) ∷ [])

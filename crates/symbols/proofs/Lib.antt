@@ -1,0 +1,2 @@
+mod Opposites
+mod Ranges
