@@ -2,7 +2,7 @@
 use mathlib.Core.List.{List, [], _∷_, _++_}
 use Prim.Native.Nat.{ℕ, zero, suc}
 use lib.Chars.{codes}
-use lib.ListN.{getD}
+use lib.ListN.{length, getD}
 use Rattle.refusals.specs.declared.Fault.{Fault}
 use Rattle.refusals.specs.Table.{numberOf, layerOf, nameOf}
 use Rattle.rules.specs.declared.node.Join.the-variants.{Chain, Choice}
@@ -11,6 +11,8 @@ use Rattle.rules.specs.declared.node.Shape.{Shape}
 use Rattle.rules.specs.declared.node.Shape.the-variants.{Void, Nil, Leaf, Join, Repeat}
 use Rattle.rules.specs.Nodes.{noNode}
 use Rattle.std.specs.Written.{decimal}
+use Rattle.symbols.specs.Bytes.{everyByte}
+use Rattle.symbols.specs.declared.bytes.ByteTest.{ByteTest}
 use Rattle.std.specs.declared.option.Option.{Option}
 use Rattle.std.specs.declared.option.Option.the-variants.{Some, None}
 
@@ -57,3 +59,11 @@ rows ns next far (suc k) = rows ns next far k ++ row k (getD ns k noNode) (getD 
 -- the line of a fault
 abbrev pub faultLine : Fault → List ℕ
 faultLine f = line (codes "fault" ∷ decimal (numberOf (f .refusal)) ∷ nameOf (layerOf (f .refusal)) ∷ decimal (f .place) ∷ [])
+
+-- the header, and a line for each node
+abbrev pub listing : List Node → List ℕ → List (Option ℕ) → List ℕ
+listing ns next far = header ++ rows ns next far (length ns)
+
+-- the tests of the names any, a and b: bytes 0 to 255, 97 and 98
+abbrev pub letterTests : List ByteTest
+letterTests = everyByte ∷ record { lowest = 97; highest = 97 } ∷ record { lowest = 98; highest = 98 } ∷ []

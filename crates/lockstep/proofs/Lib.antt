@@ -1,0 +1,6 @@
+mod Pushes
+mod Handing
+pub mod Later
+mod Bounds
+mod Shorts
+mod Adding
