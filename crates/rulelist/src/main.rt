@@ -1,5 +1,7 @@
 // Lists the nodes of the rule whose text stands on standard input, or says the text's first fault.
 mod listing;
+#[cfg(test)]
+mod tests;
 
 use rule_text::MAX_TEXT;
 use std::io;
