@@ -1,5 +1,5 @@
 -- What the first byte, or the first run, of a text leaves of its words.
-use mathlib.Core.Path.{_≡_, refl, sym, ap, subst, _∙_}
+use mathlib.Core.Path.{_≡_, refl, sym, ap, _∙_}
 use mathlib.Core.Bool.{Bool, true, false, cond, _&&_, _||_}
 use mathlib.Core.List.{List, [], _∷_, _++_}
 use Prim.Native.Nat.{ℕ, zero, suc, _+_, _-_, _≤_, _<_}
@@ -11,8 +11,8 @@ use mathlib.Core.Logic.{⊎-elim}
 use lib.ListN.{length-drop, length-take}
 use Rattle.std.proofs.shelf.Ways.{tells}
 use Rattle.std.proofs.shelf.Tests.{cond-true, cond-false, cases-bool}
-use Rattle.rule_text.specs.Words.{Word, run, mark, inRun, blank, letter, front, words}
-use Rattle.rule_text.specs.Lexing.{wordsOf, Starts, Shorter, RunWord}
+use Rattle.rule_text.specs.Words.{Word, name, runWord, mark, inRun, blank, letter, front, words}
+use Rattle.rule_text.specs.Lexing.{wordsOf, Starts, Shorter, IsRunWord}
 use Rattle.std.specs.declared.option.Option.the-variants.{Some}
 use Rattle.rule_text.specs.declared.words.Word.{Word as Token}
 use Rattle.rule_text.specs.declared.words.Word.the-variants.{Name, Nil, Void, Open, Close, Bar, Star, Bang, End}
@@ -82,7 +82,7 @@ front-le (b ∷ bs) = let ih = front-le bs in ⊎-elim
 
 pub record RunStep (whole : ℕ) (text xs : List ℕ) (n : ℕ) : Type 0 where
   pub some : 0 < n
-  pub first : wordsOf whole text ≡ (whole - length xs, run (take n xs)) ∷ wordsOf whole (drop n xs)
+  pub first : wordsOf whole text ≡ (whole - length xs, runWord (take n xs)) ∷ wordsOf whole (drop n xs)
 
 pub run-step : (whole : ℕ) (text xs : List ℕ) (n : ℕ) → length xs ≤ whole → wordsOf whole xs ≡ wordsOf whole text → 0 < length xs → inRun (getD xs 0 0) ≡ true → n ≤ length xs → take n xs ≡ front xs → RunStep whole text xs n
 run-step whole text [] n h same k r le f = absurd (omega arith)
@@ -97,8 +97,8 @@ run-step whole text (b ∷ bs) n h same k r le f =
       some = omega arith;
       first =
           sym same ∙ cond-true (inRun b) _ _ r
-          ∙ ap (λ l. (whole - length (b ∷ bs), run l) ∷ words (whole - length (b ∷ bs) + 1) true bs) (sym f)
-          ∙ ap (λ l. (whole - length (b ∷ bs), run (take n (b ∷ bs))) ∷ l) (inside _ bs ∙ ap (λ k. words k false (drop (length (front bs)) bs)) here ∙ ap (λ l. words (whole - length (drop n (b ∷ bs))) false l) (sym past));
+          ∙ ap (λ l. (whole - length (b ∷ bs), runWord l) ∷ words (whole - length (b ∷ bs) + 1) true bs) (sym f)
+          ∙ ap (λ l. (whole - length (b ∷ bs), runWord (take n (b ∷ bs))) ∷ l) (inside _ bs ∙ ap (λ k. words k false (drop (length (front bs)) bs)) here ∙ ap (λ l. words (whole - length (drop n (b ∷ bs))) false l) (sym past));
     }
 
 pub no-run : (xs : List ℕ) → 0 < length xs → length (front xs) ≡ 0 → inRun (getD xs 0 0) ≡ false
@@ -122,10 +122,10 @@ no-words whole [] e = refl
 no-words whole (b ∷ bs) e = absurd (omega arith)
 
 -- a run that is a word is the first of the words
-pub run-starts : (whole p m n : ℕ) (r : List ℕ) (ws vs : List (ℕ × Word)) (t : Token) → RunWord r (Some t) → ws ≡ (p, run r) ∷ vs → m < n → Starts whole t p ws vs × Shorter t m n
-run-starts whole p m n r ws vs (Name s) h e lt = ((rw (h .1) (h .0), rw (h .1) e), lt)
-run-starts whole p m n r ws vs Nil h e lt = (rw h at e, lt)
-run-starts whole p m n r ws vs Void h e lt = (rw h at e, lt)
+pub run-starts : (whole p m n : ℕ) (r : List ℕ) (ws vs : List (ℕ × Word)) (t : Token) → IsRunWord r (Some t) → ws ≡ (p, runWord r) ∷ vs → m < n → Starts whole t p ws vs × Shorter t m n
+run-starts whole p m n r ws vs (Name s) h e lt = (e ∙ ap (λ (w : Word). (p, w) ∷ vs) (h .0) ∙ ap (λ (x : List ℕ). (p, name x) ∷ vs) (sym (h .1)), lt)
+run-starts whole p m n r ws vs Nil h e lt = (e ∙ ap (λ (w : Word). (p, w) ∷ vs) h, lt)
+run-starts whole p m n r ws vs Void h e lt = (e ∙ ap (λ (w : Word). (p, w) ∷ vs) h, lt)
 run-starts whole p m n r ws vs Open h e lt = absurd h
 run-starts whole p m n r ws vs Close h e lt = absurd h
 run-starts whole p m n r ws vs Bar h e lt = absurd h

@@ -1,1 +1,9 @@
 mod Lexing
+mod Entries
+mod Drafting
+mod Reading
+mod Scanning
+mod Failing
+mod First
+mod Unique
+mod Exact

@@ -1,7 +1,6 @@
 // Rule texts: reading one into a rule.
-ghost use mathlib.Core.Path.{_≡_};
 ghost use Rattle.std.specs.Of.Vec.{vec-items};
-ghost use Rattle.std.specs.Results.{Cases};
+ghost use Rattle.rule_text.specs.Reading.{Reading};
 
 mod names;
 mod reader;
@@ -19,7 +18,7 @@ pub const MAX_TEXT: usize = 4096;
 
 // Reads a text, with these names, into the rule, or says its first fault and leaves the rule as it was.
 pub fn read(names: &[Entry], text: &[u8], rule: &mut Rule) -> Result<(), Fault>
-    ensures { λ r. ⌜ Cases r (λ _. Unit {0}) (λ _. vec-items (now (rule .exit) .nodes) ≡ vec-items (now (rule .entry) .nodes)) ⌝ }
+    ensures { λ r. ⌜ Reading (now (names .entry)) (now (text .entry)) (vec-items (now (rule .entry) .nodes)) (vec-items (now (rule .exit) .nodes)) r ⌝ }
 {
     names::check_names(names)?;
     if text.len() > MAX_TEXT {

@@ -1,8 +1,10 @@
 // The reader: the grammar's four levels, each a function that adds what it reads to a draft.
-ghost use Prim.Native.Nat.{_≤_, _<_};
+ghost use Prim.Native.Nat.{_≤_};
 ghost use lib.ListN.{length};
-ghost use Rattle.std.specs.Results.{Cases};
-ghost use Rattle.std.specs.Vec.{made};
+ghost use Rattle.std.specs.Of.Vec.{vec-items};
+ghost use Rattle.rule_text.specs.Grammar.{choice as choiceLevel, chain as chainLevel, item as itemLevel, atom as atomLevel};
+ghost use Rattle.rule_text.specs.Names.{GoodNames};
+ghost use Rattle.rule_text.specs.Readers.{TestOf, Opposite, Outcome};
 use crate::names::Entry;
 use crate::names::find;
 use crate::words::Word;
@@ -19,7 +21,7 @@ const MAX_DEPTH: usize = 16;
 // The test that a name stands for.
 fn test_of(names: &[Entry], name: &[u8], place: usize) -> Result<u8, Fault>
     requires { ⌜ length (now names) ≤ 128 ⌝ }
-    ensures { λ r. ⌜ made r (λ t. t < length (now (names .entry))) ⌝ }
+    ensures { λ r. ⌜ TestOf (now (names .entry)) (now (name .entry)) place r ⌝ }
 {
     match find(names, name) {
         Some(t) => Ok(t as u8),
@@ -37,9 +39,9 @@ fn opposite<'a>(
     text: &'a [u8],
     draft: &mut Draft,
 ) -> Result<&'a [u8], Fault>
-    requires few { ⌜ length (now names) ≤ 128 ⌝ }
+    requires good { ⌜ GoodNames (now names) ⌝ }
     requires fits { ⌜ length (now text) ≤ whole ⌝ }
-    ensures { λ r. ⌜ made r (λ rest. length (now rest) < length (now (text .entry))) ⌝ }
+    ensures { λ r. ⌜ Opposite (now (names .entry)) whole (now (text .entry)) (vec-items (now (draft .entry) .nodes)) (now (draft .entry) .over) (vec-items (now (draft .exit) .nodes)) (now (draft .exit) .over) r ⌝ }
 {
     let next = next_word(whole, text)?;
     let Word::Name(name) = next.word else {
@@ -48,7 +50,8 @@ fn opposite<'a>(
             place: next.place,
         });
     };
-    draft.push(Shape::Leaf(names.len() as u8 + test_of(names, name, next.place)?));
+    let test = test_of(names, name, next.place)?;
+    draft.push(Shape::Leaf(names.len() as u8 + test));
     Ok(next.rest)
 }
 
@@ -60,10 +63,10 @@ pub fn choice<'a>(
     depth: usize,
     draft: &mut Draft,
 ) -> Result<&'a [u8], Fault>
-    requires few { ⌜ length (now names) ≤ 128 ⌝ }
+    requires good { ⌜ GoodNames (now names) ⌝ }
     requires fits { ⌜ length (now text) ≤ whole ⌝ }
     requires shallow { ⌜ depth ≤ 16 ⌝ }
-    ensures { λ r. ⌜ made r (λ rest. length (now rest) < length (now (text .entry))) ⌝ }
+    ensures { λ r. ⌜ Outcome (now (names .entry)) choiceLevel whole (now (text .entry)) depth (vec-items (now (draft .entry) .nodes)) (now (draft .entry) .over) (vec-items (now (draft .exit) .nodes)) (now (draft .exit) .over) r ⌝ }
 {
     let mut rest = chain(names, whole, text, depth, draft)?;
     loop {
@@ -84,10 +87,10 @@ fn chain<'a>(
     depth: usize,
     draft: &mut Draft,
 ) -> Result<&'a [u8], Fault>
-    requires few { ⌜ length (now names) ≤ 128 ⌝ }
+    requires good { ⌜ GoodNames (now names) ⌝ }
     requires fits { ⌜ length (now text) ≤ whole ⌝ }
     requires shallow { ⌜ depth ≤ 16 ⌝ }
-    ensures { λ r. ⌜ made r (λ rest. length (now rest) < length (now (text .entry))) ⌝ }
+    ensures { λ r. ⌜ Outcome (now (names .entry)) chainLevel whole (now (text .entry)) depth (vec-items (now (draft .entry) .nodes)) (now (draft .entry) .over) (vec-items (now (draft .exit) .nodes)) (now (draft .exit) .over) r ⌝ }
 {
     let mut rest = item(names, whole, text, depth, draft)?;
     loop {
@@ -108,10 +111,10 @@ fn item<'a>(
     depth: usize,
     draft: &mut Draft,
 ) -> Result<&'a [u8], Fault>
-    requires few { ⌜ length (now names) ≤ 128 ⌝ }
+    requires good { ⌜ GoodNames (now names) ⌝ }
     requires fits { ⌜ length (now text) ≤ whole ⌝ }
     requires shallow { ⌜ depth ≤ 16 ⌝ }
-    ensures { λ r. ⌜ made r (λ rest. length (now rest) < length (now (text .entry))) ⌝ }
+    ensures { λ r. ⌜ Outcome (now (names .entry)) itemLevel whole (now (text .entry)) depth (vec-items (now (draft .entry) .nodes)) (now (draft .entry) .over) (vec-items (now (draft .exit) .nodes)) (now (draft .exit) .over) r ⌝ }
 {
     let mut rest = atom(names, whole, text, depth, draft)?;
     loop {
@@ -132,17 +135,27 @@ fn atom<'a>(
     depth: usize,
     draft: &mut Draft,
 ) -> Result<&'a [u8], Fault>
-    requires few { ⌜ length (now names) ≤ 128 ⌝ }
+    requires good { ⌜ GoodNames (now names) ⌝ }
     requires fits { ⌜ length (now text) ≤ whole ⌝ }
     requires shallow { ⌜ depth ≤ 16 ⌝ }
-    ensures { λ r. ⌜ made r (λ rest. length (now rest) < length (now (text .entry))) ⌝ }
+    ensures { λ r. ⌜ Outcome (now (names .entry)) atomLevel whole (now (text .entry)) depth (vec-items (now (draft .entry) .nodes)) (now (draft .entry) .over) (vec-items (now (draft .exit) .nodes)) (now (draft .exit) .over) r ⌝ }
 {
     let next = next_word(whole, text)?;
     match next.word {
-        Word::Name(name) => draft.push(Shape::Leaf(test_of(names, name, next.place)?)),
-        Word::Nil => draft.push(Shape::Nil),
-        Word::Void => draft.push(Shape::Void),
-        Word::Bang => return opposite(names, whole, next.rest, draft),
+        Word::Name(name) => {
+            let test = test_of(names, name, next.place)?;
+            draft.push(Shape::Leaf(test));
+            Ok(next.rest)
+        }
+        Word::Nil => {
+            draft.push(Shape::Nil);
+            Ok(next.rest)
+        }
+        Word::Void => {
+            draft.push(Shape::Void);
+            Ok(next.rest)
+        }
+        Word::Bang => opposite(names, whole, next.rest, draft),
         Word::Open => {
             if depth >= MAX_DEPTH {
                 return Err(Fault {
@@ -152,18 +165,17 @@ fn atom<'a>(
             }
             let rest = choice(names, whole, next.rest, depth + 1, draft)?;
             let last = next_word(whole, rest)?;
-            let Word::Close = last.word else {
-                return Err(Fault {
+            match last.word {
+                Word::Close => Ok(last.rest),
+                _ => Err(Fault {
                     refusal: Refusal::Misplaced,
                     place: last.place,
-                });
-            };
-            return Ok(last.rest);
+                }),
+            }
         }
-        _ => return Err(Fault {
+        _ => Err(Fault {
             refusal: Refusal::Misplaced,
             place: next.place,
         }),
     }
-    Ok(next.rest)
 }

@@ -3,8 +3,9 @@ ghost use mathlib.Core.Path.{_≡_};
 ghost use mathlib.Core.Bool.{false};
 ghost use Prim.Native.Nat.{_≤_, _<_};
 ghost use lib.ListN.{length, getD, take};
-ghost use Rattle.rule_text.specs.Words.{front, blank};
-ghost use Rattle.rule_text.specs.Lexing.{wordsOf, RunWord, ReadsWord};
+ghost use Rattle.std.specs.shelf.Text.{sameBytes};
+ghost use Rattle.rule_text.specs.Words.{front, blank, isName, isTestName};
+ghost use Rattle.rule_text.specs.Lexing.{wordsOf, IsRunWord, ReadsWord};
 use refusals::Fault;
 use refusals::Refusal;
 
@@ -61,15 +62,42 @@ pub fn run_len(text: &[u8]) -> usize
     text.len()
 }
 
-// The word that a run is; none where it is no name.
-pub fn run_word<'a>(run: &'a [u8]) -> Option<Word<'a>>
-    ensures { λ r. ⌜ RunWord (now (run .entry)) r ⌝ }
+// Whether a run is a name.
+fn is_name(run: &[u8]) -> bool
+    ensures { λ r. ⌜ r ≡ isName (now (run .entry)) ⌝ }
 {
     match run {
-        b"nil" => Some(Word::Nil),
-        b"void" => Some(Word::Void),
-        [b'a'..=b'z', ..] if run.len() <= MAX_NAME => Some(Word::Name(run)),
-        _ => None,
+        [b'a'..=b'z', ..] if run.len() <= MAX_NAME => true,
+        _ => false,
+    }
+}
+
+// Whether a run is this word.
+pub fn spells(run: &[u8], word: &[u8]) -> bool
+    ensures { λ r. ⌜ r ≡ sameBytes (now (run .entry)) (now (word .entry)) ⌝ }
+{
+    run == word
+}
+
+// Whether a run is a name that can stand for a test.
+pub fn is_test_name(run: &[u8]) -> bool
+    ensures { λ r. ⌜ r ≡ isTestName (now (run .entry)) ⌝ }
+{
+    is_name(run) && !spells(run, b"nil") && !spells(run, b"void")
+}
+
+// The word that a run is; none where it is no name.
+fn run_word<'a>(run: &'a [u8]) -> Option<Word<'a>>
+    ensures { λ r. ⌜ IsRunWord (now (run .entry)) r ⌝ }
+{
+    if spells(run, b"nil") {
+        Some(Word::Nil)
+    } else if spells(run, b"void") {
+        Some(Word::Void)
+    } else if is_name(run) {
+        Some(Word::Name(run))
+    } else {
+        None
     }
 }
 

@@ -6,7 +6,8 @@ use borrow.Author.Needs.{needs}
 use native.Mathlib.Omega.{arith}
 use lib.ListN.{length, getD}
 use Rattle.std.proofs.shelf.Ways.{tells}
-use Rattle.rule_text.specs.Words.{mark, stray, run}
+use Rattle.rule_text.specs.Words.{mark, stray, runWord, noName}
+use Rattle.rule_text.specs.Faults.{ownFault}
 use Rattle.rule_text.specs.Lexing.{wordsOf}
 use Rattle.rule_text.proofs.Lexing.{mark-read, mark-step, run-step, RunStep, no-run, first-of, no-words, run-starts}
 use Rattle.rule_text.proofs.words.next_word.Needs as need
@@ -40,7 +41,7 @@ returns-then-is-empty c =
     let none : length (c .split-at .result .0 .now) ≡ 0 = search needs in
     let away = no-run xs some (sym (ap length (c .split-at .ensures .front ∙ c .run-len .ensures .run)) ∙ none) in
     let no-mark : mark (getD xs 0 0) ≡ stray = grind (arith, tells) in
-    record { word = stray; after = _; first = mark-step (c .args .whole) (c .args .text .now) xs _ stray (search needs) (c .skip-blanks-text .ensures .same) some refl away (c .skip-blanks-text .ensures .trimmed some) no-mark; faulty = refl }
+    record { word = stray; after = _; first = mark-step (c .args .whole) (c .args .text .now) xs _ stray (search needs) (c .skip-blanks-text .ensures .same) some refl away (c .skip-blanks-text .ensures .trimmed some) no-mark; own = refl }
 
 -- the run that the text starts with
 found : (c : After-split-at) → 0 < length (c .skip-blanks-text .result .now) → 0 < length (c .split-at .result .0 .now) → RunStep (c .args .whole) (c .args .text .now) (c .skip-blanks-text .result .now) (c .run-len .result)
@@ -48,7 +49,7 @@ found c k some =
     let xs = c .skip-blanks-text .result .now in
     run-step (c .args .whole) (c .args .text .now) xs (c .run-len .result) (search needs) (c .skip-blanks-text .ensures .same) k (first-of xs _ 0 (c .split-at .ensures .front ∙ c .run-len .ensures .run) some) (c .run-len .ensures .within) (c .run-len .ensures .run)
 
-first-word : (c : After-split-at) → 0 < length (c .skip-blanks-text .result .now) → 0 < length (c .split-at .result .0 .now) → wordsOf (c .args .whole) (c .args .text .now) ≡ (c .args .whole - length (c .skip-blanks-text .result .now), run (c .split-at .result .0 .now)) ∷ wordsOf (c .args .whole) (c .split-at .result .1 .now)
+first-word : (c : After-split-at) → 0 < length (c .skip-blanks-text .result .now) → 0 < length (c .split-at .result .0 .now) → wordsOf (c .args .whole) (c .args .text .now) ≡ (c .args .whole - length (c .skip-blanks-text .result .now), runWord (c .split-at .result .0 .now)) ∷ wordsOf (c .args .whole) (c .split-at .result .1 .now)
 first-word c k some =
     let f = found c k some .first in
     rw (c .split-at .ensures .front, c .split-at .ensures .back) f
@@ -58,11 +59,11 @@ returns-in-Some c =
     let here = need.at·returns-in-Some c .After-split-at in
     let k : 0 < length (c .skip-blanks-text .result .now) = search needs in
     let some : 0 < length (c .split-at .result .0 .now) = search needs in
-    run-starts (c .args .whole) _ _ _ _ _ _ (c .in-Some .word) (c .in-Some .ensures tt) (first-word here k some) (omega (arith, found here k some .some, c .split-at .ensures .back-len, c .skip-blanks-text .ensures .shorter))
+    run-starts (c .args .whole) _ _ _ (c .split-at .result .0 .now) _ _ (c .in-Some .word) (c .in-Some .ensures tt) (first-word here k some) (omega (arith, found here k some .some, c .split-at .ensures .back-len, c .skip-blanks-text .ensures .shorter))
 
 pub returns-in-None : need.returns-in-None
 returns-in-None c =
     let here = need.at·returns-in-None c .After-split-at in
     let k : 0 < length (c .skip-blanks-text .result .now) = search needs in
     let some : 0 < length (c .split-at .result .0 .now) = search needs in
-    record { word = run (c .split-at .result .0 .now); after = _; first = first-word here k some; faulty = (refl, c .in-None .ensures tt) }
+    record { word = runWord (c .split-at .result .0 .now); after = _; first = first-word here k some; own = ap ownFault (c .in-None .ensures tt) }
