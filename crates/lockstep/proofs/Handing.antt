@@ -1,18 +1,19 @@
--- The table of next as each node, from the root down, sets the entries of its children.
+-- The table of next as each node, from the root down, sets the entries of its children; so there is a next.
 use mathlib.Core.Path.{_≡_, refl, sym, _∙_, ap, subst}
 use mathlib.Core.List.{List}
 use mathlib.Core.Logic.{inl, inr}
-use Prim.Native.Nat.{ℕ, _-_, _≤_, _<_}
+use Prim.Native.Nat.{ℕ, zero, suc, _-_, _≤_, _<_}
 use native.Mathlib.Omega.{arith}
-use lib.ListN.{length, getD, set}
+use lib.ListN.{length, getD, set, replicate, length-replicate}
 use Rattle.std.proofs.shelf.Lists.{length-set, getD-set-same, getD-set-other}
 use Rattle.std.proofs.shelf.Ways.{eqb-tells}
 use Rattle.rules.specs.declared.node.Node.{Node}
 use Rattle.rules.specs.declared.node.Form.{Form}
 use Rattle.rules.specs.declared.node.Form.the-variants.{Void as void, Nil as nil, Leaf as leaf, Join as join, Repeat as repeat}
 use Rattle.rules.specs.Nodes.{formAt, WellFormed}
-use Rattle.rules.proofs.Spans.{Kid, leftKid, rightKid, onlyKid, join-facts, repeat-facts, kid-facts, one-parent, spans}
-use Rattle.lockstep.specs.Next.{afterLeft, handedDown}
+use Rattle.rules.specs.Children.{Kid, leftKid, rightKid, onlyKid}
+use Rattle.rules.proofs.Spans.{join-facts, repeat-facts, kid-facts, one-parent, spans}
+use Rattle.lockstep.specs.Next.{afterLeft, handedDown, IsNext}
 
 -- the entries of p's children, where p has this form, are set by p's
 abbrev pub Sets : Form → ℕ → (ℕ → ℕ) → Type 0
@@ -99,3 +100,27 @@ module _ (ns : List Node) (w : WellFormed ns) where
       | inr i ↦ sets-later (p - 1) next a (omega arith) (formAt ns a) refl (s .2 a (omega arith))
     ],
   )
+
+  set-all : (k : ℕ) → k ≤ length ns → (next : List ℕ) × SetFrom ns next (length ns - k)
+  set-all zero h = (_, (let e : length ns ≡ length ns - 0 = omega arith in subst (SetFrom ns _) e (root-set (replicate (length ns) 0) (length-replicate (length ns) 0))))
+  set-all (suc k) h =
+      let s = set-all k (omega arith) in
+      let e : length ns - k - 1 ≡ length ns - suc k = omega arith in
+      (_, subst (SetFrom ns _) e (set-more (length ns - k) (s .0) _ (omega arith) (omega arith) refl (s .1)))
+
+  pub is-next : (next : List ℕ) → SetFrom ns next 0 → IsNext ns (λ q. getD next q 0)
+  is-next next s = record {
+    root = s .1;
+    left = λ p l r o e. at p (join o l r) e .0;
+    right = λ p l r o e. at p (join o l r) e .1;
+    child = λ p c e. at p (repeat c) e;
+  }
+    where
+      at : (p : ℕ) (x : Form) → formAt ns p ≡ x → Sets x p (λ q. getD next q 0)
+      at p x e = subst (λ (x : Form). Sets x p (λ q. getD next q 0)) e (s .2 p (omega arith))
+
+  pub has-next : (next : ℕ → ℕ) × IsNext ns next
+  has-next =
+      let s = set-all (length ns) (omega arith) in
+      let e : length ns - length ns ≡ 0 = omega arith in
+      (λ q. getD (s .0) q 0, is-next (s .0) (subst (SetFrom ns (s .0)) e (s .1)))

@@ -1,46 +1,38 @@
--- Next of a node stands after it, and no further than the end.
-use mathlib.Core.Path.{_≡_, refl}
+-- Next of a node stands after it, and no further than the end; and there is one next.
+use mathlib.Core.Path.{_≡_, sym, _∙_, ap}
 use mathlib.Core.List.{List}
-use mathlib.Core.Logic.{inl, inr}
-use Prim.Native.Nat.{ℕ, _-_, _≤_, _<_}
+use Prim.Native.Nat.{ℕ, _≤_, _<_}
 use native.Mathlib.Omega.{arith}
 use lib.ListN.{length}
-use Rattle.std.proofs.shelf.Ways.{leb-tells, eqb-tells}
 use Rattle.rules.specs.declared.node.Node.{Node}
 use Rattle.rules.specs.declared.node.Join.{Join}
 use Rattle.rules.specs.declared.node.Join.the-variants.{Chain as chain, Choice as choice}
-use Rattle.rules.specs.declared.node.Form.{Form}
-use Rattle.rules.specs.declared.node.Form.the-variants.{Void as void, Nil as nil, Leaf as leaf, Join as join, Repeat as repeat}
-use Rattle.rules.specs.Nodes.{formAt, sizeAt, WellFormed}
-use Rattle.rules.proofs.Sizes.{strong}
-use Rattle.rules.proofs.Spans.{Spanned, begin, spans}
+use Rattle.rules.specs.Children.{Kid, leftKid, rightKid, onlyKid}
+use Rattle.rules.specs.Nodes.{formAt, WellFormed}
+use Rattle.rules.proofs.Spans.{spans, join-facts, repeat-facts, from-root}
 use Rattle.lockstep.specs.Next.{afterLeft, IsNext}
 
 module _ (ns : List Node) (w : WellFormed ns) (next : ℕ → ℕ) (N : IsNext ns next) where
-  Later : ℕ → Type 0
+  -- next of q stands after q, and no further than the end
+  abbrev Later : ℕ → Type 0
   Later q = (q < next q) × (next q ≤ length ns)
 
-  -- of a part whose last node has it so, each node has
-  down : (q a : ℕ) → a < length ns → Later a → begin (sizeAt ns) a ≤ q → q ≤ a → Later q
-  unfolding Later
-  down q = strong _ (λ a ih k j h1 h2. elim (eqb-tells q a) [ inl e ↦ rw (e .1) j | inr e ↦ go a ih k j h1 h2 (e .1) (formAt ns a) refl (spans ns w .span a) ])
-    where
-      after : (a l r : ℕ) (o : Join) → l < r → r < a → a < length ns → Later a → next l ≡ afterLeft o r (next a) → Later l
-      after a l r chain h1 h2 k j e = omega arith
-      after a l r choice h1 h2 k j e = omega arith
+  after : (p l r : ℕ) (o : Join) → l < r → r < p → p < length ns → Later p → next l ≡ afterLeft o r (next p) → Later l
+  after p l r chain h1 h2 k j e = omega arith
+  after p l r choice h1 h2 k j e = omega arith
 
-      go : (a : ℕ) → ((b : ℕ) → b < a → b < length ns → Later b → begin (sizeAt ns) b ≤ q → q ≤ b → Later q) → a < length ns → Later a → begin (sizeAt ns) a ≤ q → q ≤ a → (q ≡ a → ⊥) → (x : Form) → formAt ns a ≡ x → Spanned (begin (sizeAt ns)) x a → Later q
-      go a ih k j h1 h2 d void e s = absurd (omega arith)
-      go a ih k j h1 h2 d nil e s = absurd (omega arith)
-      go a ih k j h1 h2 d (leaf t) e s = absurd (omega arith)
-      go a ih k j h1 h2 d (join o l r) e s =
-          let order : l < r = omega (arith, spans ns w .low r) in
-          elim (leb-tells q l) [
-            | inl f ↦ ih l (omega arith) (omega arith) (after a l r o order (omega arith) k j (N .left a l r o e)) (omega arith) (omega arith)
-            | inr f ↦ ih r (omega arith) (omega arith) (omega (arith, N .right a l r o e)) (omega arith) (omega arith)
-          ]
-      go a ih k j h1 h2 d (repeat c) e s = ih c (omega arith) (omega arith) (omega (arith, N .child a c e)) (omega arith) (omega arith)
+  hands : (p q : ℕ) → Kid (formAt ns) p q → Later p → Later q
+  hands p q (leftKid {l = l} {r = r} {o = o} e) j = let f = join-facts (spans ns w) p l r o e in after p l r o (omega arith) (omega arith) (omega arith) j (N .left p l r o e)
+  hands p q (rightKid {l = l} {r = r} {o = o} e) j = let f = join-facts (spans ns w) p l r o e in omega (arith, N .right p l r o e)
+  hands p q (onlyKid {c = c} e) j = let f = repeat-facts (spans ns w) p c e in omega (arith, N .child p c e)
 
   pub next-later : (q : ℕ) → q < length ns → (q < next q) × (next q ≤ length ns)
-  unfolding Later
-  next-later q h = down q (length ns - 1) (omega arith) (omega (arith, N .root)) (omega (arith, spans ns w .full)) (omega arith)
+  next-later = from-root (spans ns w) Later (omega (arith, N .root, w .1 .0)) hands
+
+  pub same-next : (next′ : ℕ → ℕ) → IsNext ns next′ → (q : ℕ) → q < length ns → next q ≡ next′ q
+  same-next next′ M = from-root (spans ns w) (λ q. next q ≡ next′ q) (N .root ∙ sym (M .root)) alike
+    where
+      alike : (p q : ℕ) → Kid (formAt ns) p q → next p ≡ next′ p → next q ≡ next′ q
+      alike p q (leftKid {l = l} {r = r} {o = o} e) j = N .left p l r o e ∙ ap (afterLeft o r) j ∙ sym (M .left p l r o e)
+      alike p q (rightKid {l = l} {r = r} {o = o} e) j = N .right p l r o e ∙ j ∙ sym (M .right p l r o e)
+      alike p q (onlyKid {c = c} e) j = N .child p c e ∙ sym (M .child p c e)

@@ -4,3 +4,5 @@ pub mod Later
 mod Bounds
 mod Shorts
 mod Adding
+mod Pinned
+mod Words

@@ -11,7 +11,8 @@ use Rattle.rules.specs.declared.node.Node.{Node}
 use Rattle.rules.specs.declared.node.Join.the-variants.{Chain as chain, Choice as choice}
 use Rattle.rules.specs.declared.node.Form.{Form}
 use Rattle.rules.specs.declared.node.Form.the-variants.{Void as void, Nil as nil, Leaf as leaf, Join as join, Repeat as repeat}
-use Rattle.rules.specs.Nodes.{formAt}
+use Rattle.rules.specs.Nodes.{formAt, WellFormed}
+use Rattle.lockstep.specs.Next.{IsNext}
 
 -- the sum, none if either is none
 abbrev pub sum : Option ℕ → Option ℕ → Option ℕ
@@ -56,3 +57,7 @@ FarTable possible ns next far = (length far ≡ length ns + 1) × IsFar possible
 abbrev pub AtMost : ℕ → Option ℕ → Type 0
 AtMost n None = Unit {0}
 AtMost n (Some k) = k ≤ n
+
+-- any two fars of a well-formed list agree at each node and at the end
+abbrev pub OneFar : Type 0
+OneFar = (ns : List Node) → WellFormed ns → (possible : ℕ → Bool) (next next′ : ℕ → ℕ) (far far′ : ℕ → Option ℕ) → IsNext ns next → IsNext ns next′ → IsFar possible ns next far → IsFar possible ns next′ far′ → (q : ℕ) → q ≤ length ns → far q ≡ far′ q

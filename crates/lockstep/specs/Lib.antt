@@ -1,2 +1,3 @@
 pub mod Next
 pub mod Far
+pub mod Word

@@ -5,11 +5,9 @@ ghost use Prim.Native.Nat.{_+_};
 ghost use lib.ListN.{length};
 ghost use Rattle.std.specs.Of.String.{string-bytes};
 ghost use Rattle.std.specs.Of.Vec.{vec-items};
-ghost use Rattle.std.specs.Results.{Cases};
 ghost use Rattle.std.specs.Vec.{made};
 ghost use Rattle.std.specs.declared.option.Option.the-variants.{Some};
-ghost use Rattle.symbols.specs.Bytes.{everyByte};
-ghost use Rattle.rulelist.specs.Listing.{letterTests, kindWord, field, testOf, row, rows, listing as listingOf, faultLine};
+ghost use Rattle.rulelist.specs.Listing.{letterTests, kindWord, field, testOf, row, rows, listing as listingOf, faultLine, Lists, Prints};
 use lockstep::Tables;
 use refusals::Fault;
 use rule_text::Entry;
@@ -133,7 +131,9 @@ fn letters(heap: Global) -> Result<Turned<ByteKind>, AllocError>
 }
 
 // The listing of a rule.
-fn rule_text(heap: Global, rule: &Rule) -> Result<String, AllocError> {
+fn list_rule(heap: Global, rule: &Rule) -> Result<String, AllocError>
+    ensures { λ r. ⌜ made r (λ s. Lists (vec-items (now (rule .entry) .nodes)) (string-bytes s)) ⌝ }
+{
     let kind = letters(heap)?;
     let mut tables = Tables::new(heap)?;
     tables.fill(rule, &kind);
@@ -141,10 +141,12 @@ fn rule_text(heap: Global, rule: &Rule) -> Result<String, AllocError> {
 }
 
 // What the program prints for a text: the listing of its rule, or the line of its fault.
-pub fn listing(heap: Global, text: &[u8]) -> Result<String, AllocError> {
+pub fn listing(heap: Global, text: &[u8]) -> Result<String, AllocError>
+    ensures { λ r. ⌜ made r (λ s. Prints (now (text .entry)) (string-bytes s)) ⌝ }
+{
     let mut rule = Rule::new(heap)?;
     match read(&NAMES, text, &mut rule) {
-        Ok(()) => rule_text(heap, &rule),
+        Ok(()) => list_rule(heap, &rule),
         Err(fault) => fault_text(heap, fault),
     }
 }

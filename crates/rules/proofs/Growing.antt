@@ -21,7 +21,7 @@ joined-from : (size size′ : ℕ → ℕ) (i : ℕ) → ((j : ℕ) → j < i �
 joined-from size size′ zero h = rw (le-ltb (size 0) 0 (omega arith), le-ltb (size′ 0) 0 (omega arith))
 joined-from size size′ (suc i) h = rw (h (suc i - 1) (omega arith), h (suc i - 1 - size′ (suc i - 1)) (omega arith))
 
-size-from : (size size′ : ℕ → ℕ) (x : Shape) (i : ℕ) → ((j : ℕ) → j < i → size j ≡ size′ j) → sizeFor size x i ≡ sizeFor size′ x i
+pub size-from : (size size′ : ℕ → ℕ) (x : Shape) (i : ℕ) → ((j : ℕ) → j < i → size j ≡ size′ j) → sizeFor size x i ≡ sizeFor size′ x i
 size-from size size′ Void i h = refl
 size-from size size′ Nil i h = refl
 size-from size size′ (Leaf t) i h = refl

@@ -1,3 +1,4 @@
 pub mod Sizes
 pub mod Spans
 mod Growing
+mod Taking

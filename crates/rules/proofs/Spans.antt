@@ -1,5 +1,5 @@
 -- Where the parts of a well-formed list begin, where children stand, and that a node has one parent.
-use mathlib.Core.Path.{_≡_, sym, ap, subst}
+use mathlib.Core.Path.{_≡_, refl, sym, ap, subst}
 use mathlib.Core.List.{List}
 use mathlib.Core.Bool.{true}
 use mathlib.Core.Logic.{_⊎_, inl, inr}
@@ -15,6 +15,7 @@ use Rattle.rules.specs.declared.node.Shape.{Shape}
 use Rattle.rules.specs.declared.node.Shape.the-variants.{Void, Nil, Leaf, Join as Joined, Repeat}
 use Rattle.rules.specs.declared.node.Form.{Form}
 use Rattle.rules.specs.declared.node.Form.the-variants.{Void as void, Nil as nil, Leaf as leaf, Join as join, Repeat as repeat}
+use Rattle.rules.specs.Children.{Kid, leftKid, rightKid, onlyKid, OneParent}
 use Rattle.rules.specs.Nodes.{noNode, sizeAt, shapeAt, sizeFor, isSize, formOf, formAt, WellFormed}
 use Rattle.rules.proofs.Sizes.{strong, joined, repeated, size-within}
 
@@ -33,12 +34,6 @@ pub record Spans (form : ℕ → Form) (lo : ℕ → ℕ) (n : ℕ) : Type 0 whe
   pub outside : (p : ℕ) → n ≤ p → form p ≡ void
   pub full : lo (n - 1) ≡ 0
   pub some : 0 < n
-
--- q is a child of p
-pub data Kid (form : ℕ → Form) : ℕ → ℕ → Type 0 where
-  leftKid : {p l r : ℕ} {o : Join} → form p ≡ join o l r → Kid form p l
-  rightKid : {p l r : ℕ} {o : Join} → form p ≡ join o l r → Kid form p r
-  onlyKid : {p c : ℕ} → form p ≡ repeat c → Kid form p c
 
 module _ {form : ℕ → Form} {lo : ℕ → ℕ} {n : ℕ} (N : Spans form lo n) where
   -- a part that ends within another begins within it
@@ -104,6 +99,27 @@ module _ {form : ℕ → Form} {lo : ℕ → ℕ} {n : ℕ} (N : Spans form lo n
     | inr e ↦ elim (leb-tells p p′) [ inl f ↦ absurd (not-later a b (omega arith)) | inr f ↦ absurd (not-later b a (omega arith)) ]
   ]
 
+  -- what holds of the root and is handed from each node to its children holds of each node
+  pub from-root : (P : ℕ → Type 0) → P (n - 1) → ((p q : ℕ) → Kid form p q → P p → P q) → (q : ℕ) → q < n → P q
+  from-root P root hand q h = down (n - 1) (omega (arith, N .full)) (omega arith) root
+    where
+      go : (a : ℕ) → ((b : ℕ) → b < a → lo b ≤ q → q ≤ b → P b → P q) → lo a ≤ q → q ≤ a → P a → (x : Form) → form a ≡ x → Spanned lo x a → (q ≡ a → ⊥) → P q
+      go a ih h1 h2 f void e s d = absurd (omega arith)
+      go a ih h1 h2 f nil e s d = absurd (omega arith)
+      go a ih h1 h2 f (leaf t) e s d = absurd (omega arith)
+      go a ih h1 h2 f (join o l r) e s d = elim (leb-tells q l) [
+        | inl k ↦ ih l (omega (arith, N .low r)) (omega arith) (omega arith) (hand a l (leftKid e) f)
+        | inr k ↦ ih r (omega arith) (omega arith) (omega arith) (hand a r (rightKid e) f)
+      ]
+      go a ih h1 h2 f (repeat c) e s d = ih c (omega arith) (omega arith) (omega arith) (hand a c (onlyKid e) f)
+
+      down : (a : ℕ) → lo a ≤ q → q ≤ a → P a → P q
+      down = strong (λ a. lo a ≤ q → q ≤ a → P a → P q) (λ a ih h1 h2 f. elim (eqb-tells q a) [ inl e ↦ rw (e .1) f | inr e ↦ go a ih h1 h2 f (form a) refl (N .span a) (e .1) ])
+
+  -- each node but the root is some node's child
+  pub parent-of : (q : ℕ) → q < n - 1 → (p : ℕ) × Kid form p q
+  parent-of q h = from-root (λ q. q < n - 1 → (p : ℕ) × Kid form p q) (λ k. absurd (omega arith)) (λ p q k f g. (p, k)) q (omega arith) h
+
 -- where the part that ends with p begins; beyond the list at p itself
 abbrev pub begin : (ℕ → ℕ) → ℕ → ℕ
 begin size p = suc p - max 1 (size p)
@@ -143,3 +159,9 @@ module _ (ns : List Node) (w : WellFormed ns) where
   join-size p l r o e =
       let f = join-facts spans p l r o e in
       omega (arith, size-within ns (w .0) p (omega arith), size-within ns (w .0) l (omega arith), size-within ns (w .0) r (omega arith))
+
+pub parents : OneParent
+parents ns w q h =
+    let k = parent-of (spans ns w) q h in
+    let f = kid-facts (spans ns w) (k .1) in
+    record { parent = k .0; kid = k .1; later = f .0; within = f .1; only = λ p j. one-parent (spans ns w) j (k .1) }

@@ -9,10 +9,12 @@ ghost use Rattle.std.specs.Of.Vec.{vec-items, vec-len, vec-cap};
 ghost use Rattle.std.specs.Orderings.{Decides};
 ghost use Rattle.std.specs.Vec.{made};
 ghost use Rattle.rules.specs.Nodes.{Fitting, Rooted, WellFormed, formAt, grown, node, sizeFor, joinedSize, sizeAt};
+ghost use Rattle.rules.specs.Records.{Adds, NodeOf};
 ghost use Rattle.rules.specs.declared.node.Shape.the-variants.{Void};
 use crate::node::Form;
 use crate::node::Node;
 use crate::node::Shape;
+use crate::record::Record;
 use std::alloc::AllocError;
 use std::alloc::Global;
 use std::mem;
@@ -75,6 +77,21 @@ fn joined_size(nodes: &[Node]) -> Option<u16>
     Some(1 + (left + right))
 }
 
+// The node that a record tells at the end of the list, if the record is good there.
+fn node_of(nodes: &[Node], given: Record) -> Option<Node>
+    requires fitting { ⌜ Fitting (now nodes) ⌝ }
+    requires few { ⌜ length (now nodes) < 512 ⌝ }
+    ensures { λ r. ⌜ NodeOf (now (nodes .entry)) given r ⌝ }
+{
+    let shape = given.shape()?;
+    let size = size_for(nodes, shape)?;
+    if given.size == size as u32 {
+        Some(Node { shape, size })
+    } else {
+        None
+    }
+}
+
 // Whether the last node is the root of all.
 fn is_rooted(nodes: &[Node]) -> bool
     ensures { λ r. ⌜ Decides r (Rooted (now (nodes .entry))) ⌝ }
@@ -112,6 +129,19 @@ impl Draft {
         } else if let Some(size) = size_for(&self.nodes, shape) {
             self.nodes.push_reserved(Node { shape, size });
         }
+    }
+
+    // Adds the node that a record tells, if the record is good after the nodes so far; says whether.
+    pub(crate) fn add(&mut self, given: Record) -> bool
+        requires { ⌜ vec-len (now self .nodes) < 512 ⌝ }
+        ensures nodes { λ r. ⌜ Adds (vec-items (now (self .entry) .nodes)) given r (vec-items (now (self .exit) .nodes)) ⌝ }
+        ensures over { λ _. ⌜ now (self .exit) .over ≡ now (self .entry) .over ⌝ }
+    {
+        let Some(node) = node_of(&self.nodes, given) else {
+            return false;
+        };
+        self.nodes.push_reserved(node);
+        true
     }
 }
 

@@ -1,2 +1,6 @@
+mod Added
+mod Bits
+mod Loads
 mod Opposites
 mod Ranges
+mod RowLaws

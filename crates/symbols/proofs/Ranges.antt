@@ -1,13 +1,13 @@
--- Lists of byte tests: what stands past the end, what a test added at the end keeps, and which tests some byte meets or fails.
+-- Lists of byte tests: what stands past the end, and which tests some byte meets or fails.
 use mathlib.Core.Bool.{true, false, not, Bool-set}
-use mathlib.Core.List.{List, [], _∷_, _++_}
+use mathlib.Core.List.{List}
 use mathlib.Core.Logic.{inl, inr, ∥∥₁-elim}
-use mathlib.Core.Path.{_≡_, ap}
+use mathlib.Core.Path.{_≡_}
 use Prim.Native.Nat.{ℕ, _≤_, _<_}
 use native.Mathlib.Omega.{arith}
 use lib.Dec.{ltb}
 use lib.ListN.{length}
-use Rattle.std.proofs.shelf.Lists.{getD-past, getD-push, getD-append-left, length-push}
+use Rattle.std.proofs.shelf.Lists.{getD-past}
 use Rattle.std.proofs.shelf.Tests.{cases-lt, cases-bool, cases-eq, lt-ltb, ltb-true}
 use Rattle.std.proofs.shelf.Ways.{tells}
 use Rattle.std.specs.Orderings.{Decides}
@@ -30,21 +30,6 @@ past-fails list t s h = rw (past-end list t h) (no-byte s)
 -- a number past the list is not the test from 0 to 255
 pub past-avoidable : (list : List ByteTest) (t : ℕ) → length list ≤ t → not (isEvery (testAt list t)) ≡ true
 past-avoidable list t h = rw (past-end list t h)
-
-module _ (list after : List ByteTest) (b : ByteTest) (e : after ≡ list ++ b ∷ []) where
-  -- a test added at the end leaves the first as it was
-  pub first-push : 1 ≤ length list → testAt after 0 ≡ testAt list 0
-  first-push h = rw e (getD-append-left list (b ∷ []) noByte 0 h)
-
-  -- a sound test added to a sound list leaves it sound
-  pub sound-push : AllSound list → Sound b → AllSound after
-  sound-push each new t h =
-      elim (cases-lt t (length list)) [
-        | inl l ↦ rw (e, getD-append-left list (b ∷ []) noByte t l) (each t l)
-        | inr l ↦
-            let m : length list ≡ t = omega (arith, length-push list b, ap length e) in
-            rw (e, getD-push list b noByte t m) new
-      ]
 
 -- the lowest byte of a sound test meets it
 lowest-meets : (b : ByteTest) → Sound b → inside b (b .lowest) ≡ true

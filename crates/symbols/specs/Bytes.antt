@@ -1,15 +1,14 @@
 -- The tests of bytes: which bytes meet each, and what adding one to a list of them gives.
-use mathlib.Core.Bool.{Bool, cond, _&&_}
-use mathlib.Core.List.{List, [], _∷_, _++_}
-use Prim.Native.Nat.{ℕ, _≤_, _<_, min}
-use lib.Dec.{eqb, leb, ltb}
-use lib.ListN.{length, getD}
+use mathlib.Core.Bool.{Bool, _&&_}
+use mathlib.Core.List.{List}
+use Prim.Native.Nat.{ℕ, _≤_, min}
+use lib.Dec.{eqb, leb}
+use lib.ListN.{getD}
 use Rattle.refusals.specs.declared.Fault.{Fault}
-use Rattle.refusals.specs.declared.Refusal.the-variants.{KindFull, BytesReversed}
-use Rattle.std.specs.Results.{isOk}
+use Rattle.refusals.specs.declared.Refusal.the-variants.{BytesReversed}
 use Rattle.std.specs.declared.result.Result.{Result}
-use Rattle.std.specs.declared.result.Result.the-variants.{Ok, Err}
 use Rattle.symbols.specs.declared.bytes.ByteTest.{ByteTest}
+use Rattle.symbols.specs.Lists.{OfEach, addAnswer, addedTo}
 
 -- a number as a byte: one past 255 reads as 255
 abbrev pub reading : ℕ → ℕ
@@ -33,7 +32,7 @@ Sound b = (b .lowest ≤ b .highest) × (b .highest ≤ 255)
 
 -- every test of a list is sound
 abbrev pub AllSound : List ByteTest → Type 0
-AllSound list = (t : ℕ) → t < length list → Sound (testAt list t)
+AllSound list = OfEach Sound noByte list
 
 -- whether a byte meets a test: it lies from the lowest to the highest, both included
 abbrev pub inside : ByteTest → ℕ → Bool
@@ -45,11 +44,8 @@ isEvery b = eqb (b .lowest) 0 && eqb (b .highest) 255
 
 -- what adding a test from low to high answers: refused where 64 tests are there, then where low is above high, and else the number of the new test
 abbrev pub addResult : List ByteTest → ℕ → ℕ → Result ℕ Fault
-addResult list low high =
-    cond (leb 64 (length list))
-    (Err (record { refusal = KindFull; place = 0 }))
-    (cond (ltb high low) (Err (record { refusal = BytesReversed; place = 0 })) (Ok (length list)))
+addResult list low high = addAnswer list (leb low high) BytesReversed
 
 -- the list after that: with the new test at its end where one was added, and else as it was
 abbrev pub addAfter : List ByteTest → ℕ → ℕ → List ByteTest
-addAfter list low high = cond (isOk (addResult list low high)) (list ++ record { lowest = low; highest = high } ∷ []) list
+addAfter list low high = addedTo list (record { lowest = low; highest = high }) (addResult list low high)

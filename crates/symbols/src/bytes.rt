@@ -1,5 +1,5 @@
 // The kind of bytes: a test is a lowest and a highest byte, both included.
-ghost use mathlib.Core.Bool.{not};
+ghost use mathlib.Core.Bool.{false, not};
 ghost use mathlib.Core.List.{[], _∷_};
 ghost use mathlib.Core.Path.{_≡_};
 ghost use Prim.Native.Nat.{_≤_};
@@ -9,13 +9,13 @@ ghost use Rattle.std.specs.Of.Vec.{vec-items, vec-len, vec-cap};
 ghost use Rattle.std.specs.Vec.{made};
 ghost use Rattle.symbols.specs.Bytes.{AllSound, everyByte, inside, isEvery, testAt, addResult, addAfter};
 use crate::kind::Kind;
+use crate::limits::MAX_TESTS;
+use crate::limits::refused;
+use crate::showing::Showing;
 use refusals::Fault;
 use refusals::Refusal;
 use std::alloc::AllocError;
 use std::alloc::Global;
-
-// The most tests that a kind of bytes has.
-const MAX_TESTS: usize = 64;
 
 // The test that every byte meets.
 const EVERY_BYTE: ByteTest = ByteTest {
@@ -59,6 +59,13 @@ impl ByteTest {
     {
         self.lowest == 0 && self.highest == 255
     }
+
+    // A byte that fails the test, unless it is the one from 0 to 255.
+    fn outside(self) -> u8
+        ensures { λ r. ⌜ (isEvery self ≡ false → inside self r ≡ false) ⌝ }
+    {
+        if self.lowest > 0 { 0 } else { 255 }
+    }
 }
 
 impl ByteKind {
@@ -78,16 +85,10 @@ impl ByteKind {
     {
         let count = self.tests.len();
         if count >= MAX_TESTS {
-            return Err(Fault {
-                refusal: Refusal::KindFull,
-                place: 0,
-            });
+            return Err(refused(Refusal::KindFull));
         }
         if lowest > highest {
-            return Err(Fault {
-                refusal: Refusal::BytesReversed,
-                place: 0,
-            });
+            return Err(refused(Refusal::BytesReversed));
         }
         self.tests.push_reserved(ByteTest { lowest, highest });
         Ok(count as u8)
@@ -125,6 +126,35 @@ pub impl Kind for ByteKind as KindOfBytes {
         match self.tests.get(t as usize) {
             Some(test) => !test.is_every(),
             None => true,
+        }
+    }
+}
+
+// The lowest byte of a test meets it. Byte 0 or byte 255 fails it, unless every byte meets it.
+pub impl Showing for ByteKind as ShowingOfBytes {
+    fn example(&self, t: u8, place: &mut u8) -> bool {
+        match self.tests.get(t as usize) {
+            Some(test) => {
+                *place = test.lowest;
+                true
+            }
+            None => false,
+        }
+    }
+
+    fn counterexample(&self, t: u8, place: &mut u8) -> bool {
+        match self.tests.get(t as usize) {
+            Some(test) => {
+                if test.is_every() {
+                    return false;
+                }
+                *place = test.outside();
+                true
+            }
+            None => {
+                *place = 0;
+                true
+            }
         }
     }
 }

@@ -6,6 +6,8 @@ ghost use Rattle.std.specs.Results.{Cases};
 ghost use Rattle.refusals.specs.declared.Refusal.the-variants.{TooManyTests};
 ghost use Rattle.symbols.specs.Turned.{halfOf, placeOf, turnedAt};
 use crate::kind::Kind;
+use crate::limits::refused;
+use crate::showing::Showing;
 use refusals::Fault;
 use refusals::Refusal;
 
@@ -43,10 +45,7 @@ impl<K: Kind> Turned<K> {
     {
         if kind.tests() > MAX_TURNED {
             return Err(NotTurned {
-                fault: Fault {
-                    refusal: Refusal::TooManyTests,
-                    place: 0,
-                },
+                fault: refused(Refusal::TooManyTests),
                 kind,
             });
         }
@@ -112,6 +111,25 @@ pub impl<K: Kind> Kind for Turned<K> as TurnedKind {
             Place::Same(u) => self.kind.avoidable(u),
             Place::Opposite(u) => self.kind.possible(u),
             Place::Past => true,
+        }
+    }
+}
+
+// An example of a test is a counterexample of its opposite. Past the tests every symbol is one.
+pub impl<K: Showing> Showing for Turned<K> as TurnedShowing {
+    fn example(&self, t: u8, place: &mut K::Symbol) -> bool {
+        match self.place(t) {
+            Place::Same(u) => self.kind.example(u, place),
+            Place::Opposite(u) => self.kind.counterexample(u, place),
+            Place::Past => false,
+        }
+    }
+
+    fn counterexample(&self, t: u8, place: &mut K::Symbol) -> bool {
+        match self.place(t) {
+            Place::Same(u) => self.kind.counterexample(u, place),
+            Place::Opposite(u) => self.kind.example(u, place),
+            Place::Past => self.kind.example(0, place),
         }
     }
 }

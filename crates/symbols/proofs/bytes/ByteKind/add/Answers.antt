@@ -4,9 +4,9 @@ use Prim.Native.Nat.{_≤_}
 use native.Mathlib.Omega.{arith}
 use lib.ListN.{length}
 use Rattle.std.specs.Of.Vec.{vec-items}
-use Rattle.symbols.specs.Bytes.{Sound}
+use Rattle.symbols.specs.Bytes.{Sound, noByte}
 use Rattle.symbols.specs.declared.bytes.ByteTest.{ByteTest}
-use Rattle.symbols.proofs.Ranges.{first-push, sound-push}
+use Rattle.symbols.proofs.Added.{first-push, each-push}
 use Rattle.symbols.proofs.bytes.ByteKind.add.Needs as need
 
 pub ghost-self : need.ghost-self
@@ -22,9 +22,9 @@ ghost-self c =
       (
         omega arith,
         (
-          first-push list after new added some ∙ kind .first,
+          first-push noByte list after new added some ∙ kind .first,
           (
-            sound-push list after new added (kind .sound) is,
+            each-push noByte list after new added Sound (kind .sound) is,
             (omega arith, tt),
           ),
         ),

@@ -1,0 +1,14 @@
+-- A number past the list is failed by every row.
+use mathlib.Core.Path.{sym}
+use Prim.Native.Nat.{_≤_}
+use borrow.Author.Needs.{needs}
+use lib.ListN.{length}
+use Rattle.std.specs.Of.Vec.{vec-items}
+use Rattle.symbols.proofs.RowLaws.{past-row-avoidable}
+use Rattle.symbols.proofs.row_kind.KindOfRows.avoidable.Needs as need
+
+pub returns-in-None : need.returns-in-None
+returns-in-None c =
+    let list = vec-items (c .args .self .now .tests) in
+    let h : length list ≤ c .args .t = search needs in
+    sym (past-row-avoidable list (c .args .t) h)
