@@ -1,7 +1,11 @@
 // The reader: the grammar's four levels, each a function that adds what it reads to a draft.
-ghost use Prim.Native.Nat.{_≤_};
+ghost use mathlib.Core.Path.{_≡_};
+ghost use Prim.Native.Nat.{_≤_, _<_};
 ghost use lib.ListN.{length};
 ghost use Rattle.std.specs.Of.Vec.{vec-items};
+ghost use Rattle.std.specs.Results.{Cases};
+ghost use Rattle.refusals.specs.declared.Refusal.the-variants.{TooDeep};
+ghost use Rattle.rule_text.specs.Faults.{fault};
 ghost use Rattle.rule_text.specs.Grammar.{choice as choiceLevel, chain as chainLevel, item as itemLevel, atom as atomLevel};
 ghost use Rattle.rule_text.specs.Names.{GoodNames};
 ghost use Rattle.rule_text.specs.Readers.{TestOf, Opposite, Outcome};
@@ -17,6 +21,19 @@ use rules::Shape;
 
 // Brackets stand at most this deep.
 const MAX_DEPTH: usize = 16;
+
+// Refuses a bracket at this place where that many stand open already.
+fn check_depth(depth: usize, place: usize) -> Result<(), Fault>
+    ensures { λ r. ⌜ Cases r (λ _. depth < 16) (λ f. (16 ≤ depth) × (f ≡ fault TooDeep place)) ⌝ }
+{
+    if depth >= MAX_DEPTH {
+        return Err(Fault {
+            refusal: Refusal::TooDeep,
+            place,
+        });
+    }
+    Ok(())
+}
 
 // The test that a name stands for.
 fn test_of(names: &[Entry], name: &[u8], place: usize) -> Result<u8, Fault>
@@ -157,12 +174,7 @@ fn atom<'a>(
         }
         Word::Bang => opposite(names, whole, next.rest, draft),
         Word::Open => {
-            if depth >= MAX_DEPTH {
-                return Err(Fault {
-                    refusal: Refusal::TooDeep,
-                    place: next.place,
-                });
-            }
+            check_depth(depth, next.place)?;
             let rest = choice(names, whole, next.rest, depth + 1, draft)?;
             let last = next_word(whole, rest)?;
             match last.word {

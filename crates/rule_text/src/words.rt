@@ -4,7 +4,7 @@ ghost use mathlib.Core.Bool.{false};
 ghost use Prim.Native.Nat.{_≤_, _<_};
 ghost use lib.ListN.{length, getD, take};
 ghost use Rattle.std.specs.shelf.Text.{sameBytes};
-ghost use Rattle.rule_text.specs.Words.{front, blank, isName, isTestName};
+ghost use Rattle.rule_text.specs.Words.{front, blank, inRun, isName, isTestName};
 ghost use Rattle.rule_text.specs.Lexing.{wordsOf, IsRunWord, ReadsWord};
 use refusals::Fault;
 use refusals::Refusal;
@@ -34,6 +34,26 @@ pub struct Placed<'a> {
     pub rest: &'a [u8],
 }
 
+// Whether a byte parts words.
+fn is_blank(b: u8) -> bool
+    ensures { λ r. ⌜ r ≡ blank b ⌝ }
+{
+    match b {
+        b' ' | b'\n' => true,
+        _ => false,
+    }
+}
+
+// Whether a byte belongs to runs.
+fn in_run(b: u8) -> bool
+    ensures { λ r. ⌜ r ≡ inRun b ⌝ }
+{
+    match b {
+        b'a'..=b'z' | b'0'..=b'9' | b'-' => true,
+        _ => false,
+    }
+}
+
 // The text past its leading blanks.
 fn skip_blanks(whole: usize, text: &[u8]) -> &[u8]
     requires { ⌜ length (now text) ≤ whole ⌝ }
@@ -42,7 +62,10 @@ fn skip_blanks(whole: usize, text: &[u8]) -> &[u8]
     ensures same { λ r. ⌜ wordsOf whole (now r) ≡ wordsOf whole (now (text .entry)) ⌝ }
 {
     let mut rest = text;
-    while let [b' ' | b'\n', after @ ..] = rest {
+    while let [first, after @ ..] = rest {
+        if !is_blank(*first) {
+            break;
+        }
         rest = after;
     }
     rest
@@ -54,9 +77,8 @@ pub fn run_len(text: &[u8]) -> usize
     ensures run { λ r. ⌜ take r (now (text .entry)) ≡ front (now (text .entry)) ⌝ }
 {
     for (i, b) in text.iter().enumerate() {
-        match *b {
-            b'a'..=b'z' | b'0'..=b'9' | b'-' => {}
-            _ => return i,
+        if !in_run(*b) {
+            return i;
         }
     }
     text.len()

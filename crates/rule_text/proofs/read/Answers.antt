@@ -4,7 +4,6 @@ use mathlib.Core.Bool.{cond, true, false}
 use mathlib.Core.List.{List, []}
 use mathlib.Core.Logic.{inl}
 use native.Mathlib.Omega.{arith}
-use borrow.Author.Needs.{needs}
 use lib.ListN.{length}
 use Rattle.std.proofs.shelf.Results.{err-from-errBy}
 use Rattle.std.proofs.shelf.Tests.{cond-true, cond-false}
@@ -34,25 +33,28 @@ returns-in-Break-check-names c =
     let e = c .in-Break-check-names .ensures tt in
     rw (p .1, p .2) (reading _ (refl, bad-names _ (e .0) (e .1)))
 
-pub returns-then-text-gt-MAX-TEXT : need.returns-then-text-gt-MAX-TEXT
-returns-then-text-gt-MAX-TEXT c = reading _ (refl, long (c .in-Continue-check-names .ensures tt) (search needs))
+pub returns-in-Break-check-length : need.returns-in-Break-check-length
+returns-in-Break-check-length c =
+    let p = err-from-errBy (c .from-residual-in-Break-check-length .result) (c .from-residual-in-Break-check-length .ensures .1) in
+    let e = c .in-Break-check-length .ensures tt in
+    rw (p .1, p .2) (reading _ (refl, subst (Refused (c .args .names .now) (c .args .text .now)) (sym (e .1)) (long (c .in-Continue-check-names .ensures tt) (e .0))))
 
 pub returns-in-Break-rest : need.returns-in-Break-rest
 returns-in-Break-rest c =
     let p = err-from-errBy (c .from-residual-in-Break-rest .result) (c .from-residual-in-Break-rest .ensures .1) in
-    rw (p .1, p .2) (reading _ (refl, faulty (c .in-Continue-check-names .ensures tt) (search needs) (first-fault (c .args .text .now) (c .in-Break-rest .ensures tt))))
+    rw (p .1, p .2) (reading _ (refl, faulty (c .in-Continue-check-names .ensures tt) (c .in-Continue-check-length .ensures tt) (first-fault (c .args .text .now) (c .in-Break-rest .ensures tt))))
 
 pub returns-in-Break-last : need.returns-in-Break-last
 returns-in-Break-last c =
     let p = err-from-errBy (c .from-residual-in-Break-last .result) (c .from-residual-in-Break-last .ensures .1) in
     let k = c .in-Continue-rest .ensures tt in
-    rw (p .1, p .2) (reading _ (refl, faulty (c .in-Continue-check-names .ensures tt) (search needs) (first-fault (c .args .text .now) (spoilt-next (k .gives) (k .split) (c .in-Break-last .ensures tt)))))
+    rw (p .1, p .2) (reading _ (refl, faulty (c .in-Continue-check-names .ensures tt) (c .in-Continue-check-length .ensures tt) (first-fault (c .args .text .now) (spoilt-next (k .gives) (k .split) (c .in-Break-last .ensures tt)))))
 
 pub returns-in-rest : need.returns-in-rest
 returns-in-rest c =
     let text = c .args .text .now in
     let k = c .in-Continue-rest .ensures tt in
-    reading _ (refl, faulty (c .in-Continue-check-names .ensures tt) (search needs) (first-fault text (not-ended (wordsOf (length text) (c .in-Continue-rest .rest .now)) (k .gives) (k .split) (k .follows) (c .in-Continue-last .last .word) (c .in-Continue-last .last .place) _ (c .in-rest .not-End) (c .in-Continue-last .ensures tt .0))))
+    reading _ (refl, faulty (c .in-Continue-check-names .ensures tt) (c .in-Continue-check-length .ensures tt) (first-fault text (not-ended (wordsOf (length text) (c .in-Continue-rest .rest .now)) (k .gives) (k .split) (k .follows) (c .in-Continue-last .last .word) (c .in-Continue-last .last .place) _ (c .in-rest .not-End) (c .in-Continue-last .ensures tt .0))))
 
 pub returns-then-adopt : need.returns-then-adopt
 returns-then-adopt c =
@@ -63,7 +65,7 @@ returns-then-adopt c =
     let is = c .adopt .ensures .nodes ∙ cond-true _ _ _ (c .if-adopt .taken) ∙ a .1 in
     reading _ (record {
       good = c .in-Continue-check-names .ensures tt;
-      short = search needs;
+      short = c .in-Continue-check-length .ensures tt;
       gives = subst (IsRule (c .args .names .now) (wordsIn text)) (sym is) (whole-rule text (c .in-Continue-rest .rest .now) k (e .0 .0));
       few = subst (λ (ns : List Node). length ns ≤ 512) (sym is) (a .0);
     })
@@ -76,5 +78,5 @@ returns-else-adopt c =
     let m = not-adopted (c .adopt .result) (k .adds [] (inl (omega arith, c .clear .ensures .items, c .clear .ensures .over))) (gives-rooted (k .gives)) (c .adopt .ensures .whether) (c .if-adopt .left) in
     reading _ (
       c .adopt .ensures .nodes ∙ cond-false _ _ _ (c .if-adopt .left),
-      many (k .new) (c .in-Continue-check-names .ensures tt) (search needs) (whole-rule text (c .in-Continue-rest .rest .now) k (e .0 .0)) m,
+      many (k .new) (c .in-Continue-check-names .ensures tt) (c .in-Continue-check-length .ensures tt) (whole-rule text (c .in-Continue-rest .rest .now) k (e .0 .0)) m,
     )

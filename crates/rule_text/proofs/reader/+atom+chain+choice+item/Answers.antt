@@ -60,35 +60,37 @@ atom-returns-in-Bang t c =
     let w = rw (c .in-Bang .is) at (c .in-Continue-next .ensures tt) in
     turned (c .args .names .now) (c .pre .good) (c .args .whole) (c .args .depth) (c .in-Continue-next .next .place) (c .args .text .now) (c .in-Continue-next .next .rest .now) _ _ _ _ (c .opposite .result) (w .0) (w .1) (c .opposite .ensures)
 
-pub atom-returns-then-depth-ge-MAX-DEPTH : need.atom-returns-then-depth-ge-MAX-DEPTH
-atom-returns-then-depth-ge-MAX-DEPTH t c =
+pub atom-returns-in-Break-check-depth : need.atom-returns-in-Break-check-depth
+atom-returns-in-Break-check-depth t c =
     let w = rw (c .in-Open .is) at (c .in-Continue-next .ensures tt) in
-    too-deep (c .in-Continue-next .next .place) (w .0) (c .if-depth-ge-MAX-DEPTH .taken) (c .pre .shallow)
+    let p = err-from-errBy (c .from-residual-in-Break-check-depth .result) (c .from-residual-in-Break-check-depth .ensures .1) in
+    let e = c .in-Break-check-depth .ensures tt in
+    rw (p .1, p .2) (subst (λ (f : Fault). Fails (c .args .names .now) atom wants (c .args .depth) (c .args .whole) (wordsOf (c .args .whole) (c .args .text .now)) f) (sym (e .1)) (too-deep (c .in-Continue-next .next .place) (w .0) (e .0) (c .pre .shallow)))
 
 pub atom-returns-in-Break-rest : need.atom-returns-in-Break-rest
 atom-returns-in-Break-rest t c =
     let w = rw (c .in-Open .is) at (c .in-Continue-next .ensures tt) in
     let p = err-from-errBy (c .from-residual-in-Break-rest .result) (c .from-residual-in-Break-rest .ensures .1) in
-    rw (p .1, p .2) (in-brackets (c .in-Continue-next .next .place) (c .args .depth + 1) (omega arith) (c .if-depth-ge-MAX-DEPTH .left) (w .0) (c .in-Break-rest .ensures tt))
+    rw (p .1, p .2) (in-brackets (c .in-Continue-next .next .place) (c .args .depth + 1) (omega arith) (c .in-Continue-check-depth .ensures tt) (w .0) (c .in-Break-rest .ensures tt))
 
 pub atom-returns-in-Break-last : need.atom-returns-in-Break-last
 atom-returns-in-Break-last t c =
     let w = rw (c .in-Open .is) at (c .in-Continue-next .ensures tt) in
     let p = err-from-errBy (c .from-residual-in-Break-last .result) (c .from-residual-in-Break-last .ensures .1) in
     let k = c .in-Continue-rest .ensures tt in
-    rw (p .1, p .2) (in-brackets (c .in-Continue-next .next .place) (c .args .depth + 1) (omega arith) (c .if-depth-ge-MAX-DEPTH .left) (w .0) (spoilt-next (k .gives) (k .split) (c .in-Break-last .ensures tt)))
+    rw (p .1, p .2) (in-brackets (c .in-Continue-next .next .place) (c .args .depth + 1) (omega arith) (c .in-Continue-check-depth .ensures tt) (w .0) (spoilt-next (k .gives) (k .split) (c .in-Break-last .ensures tt)))
 
 pub atom-returns-in-Close : need.atom-returns-in-Close
 atom-returns-in-Close t c =
     let w = rw (c .in-Open .is) at (c .in-Continue-next .ensures tt) in
     let v = rw (c .in-Close .is) at (c .in-Continue-last .ensures tt) in
-    bracket-atom (c .args .depth + 1) (omega arith) (c .if-depth-ge-MAX-DEPTH .left) (c .in-Continue-next .next .place) (c .in-Continue-last .last .place) (w .0) (w .1) (c .in-Continue-rest .ensures tt) (v .0) (v .1)
+    bracket-atom (c .args .depth + 1) (omega arith) (c .in-Continue-check-depth .ensures tt) (c .in-Continue-next .next .place) (c .in-Continue-last .last .place) (w .0) (w .1) (c .in-Continue-rest .ensures tt) (v .0) (v .1)
 
 pub atom-returns-in-rest-word : need.atom-returns-in-rest-word
 atom-returns-in-rest-word t c =
     let w = rw (c .in-Open .is) at (c .in-Continue-next .ensures tt) in
     let k = c .in-Continue-rest .ensures tt in
-    not-closed (wordsOf (c .args .whole) (c .in-Continue-rest .rest .now)) (c .in-Continue-next .next .place) (c .args .depth + 1) (omega arith) (c .if-depth-ge-MAX-DEPTH .left) (w .0) (k .gives) (k .split) (k .follows) (c .in-Continue-last .last .word) (c .in-Continue-last .last .place) _ (c .in-rest-word .not-Close) (c .in-Continue-last .ensures tt .0)
+    not-closed (wordsOf (c .args .whole) (c .in-Continue-rest .rest .now)) (c .in-Continue-next .next .place) (c .args .depth + 1) (omega arith) (c .in-Continue-check-depth .ensures tt) (w .0) (k .gives) (k .split) (k .follows) (c .in-Continue-last .last .word) (c .in-Continue-last .last .place) _ (c .in-rest-word .not-Close) (c .in-Continue-last .ensures tt .0)
 
 pub atom-returns-in-rest : need.atom-returns-in-rest
 atom-returns-in-rest t c = barred-atom (c .in-Continue-next .next .place) _ _ (c .in-Continue-next .next .word) (c .in-rest .not-Name) (c .in-rest .not-Nil) (c .in-rest .not-Void) (c .in-rest .not-Bang) (c .in-rest .not-Open) (c .in-Continue-next .ensures tt .0)

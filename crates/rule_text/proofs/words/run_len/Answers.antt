@@ -1,18 +1,13 @@
+-- The first byte that is in no run ends it, or the end of the text does.
+use mathlib.Core.Path.{sym, _∙_}
 use borrow.Author.Needs.{needs}
 use native.Mathlib.Omega.{arith}
-use Rattle.std.proofs.shelf.Ways.{tells}
 use lib.ListN.{length}
 use Rattle.rule_text.proofs.Lexing.{front-is}
 use Rattle.rule_text.proofs.words.run_len.Needs as need
 
-pub returns-in-rest : need.returns-in-rest
-returns-in-rest c = record { within = search needs; run = front-is _ _ (search needs) (c .loop-i .inv) (λ lt. grind (arith, tells)) }
-
-pub returns-in-rest·2 : need.returns-in-rest·2
-returns-in-rest·2 c = record { within = search needs; run = front-is _ _ (search needs) (c .loop-i .inv) (λ lt. grind (arith, tells)) }
-
-pub returns-in-rest·3 : need.returns-in-rest·3
-returns-in-rest·3 c = record { within = search needs; run = front-is _ _ (search needs) (c .loop-i .inv) (λ lt. grind (arith, tells)) }
+pub returns-then-not-in-run : need.returns-then-not-in-run
+returns-then-not-in-run c = record { within = search needs; run = front-is _ _ (search needs) (c .loop-i .inv) (λ lt. sym (c .in-run .ensures) ∙ c .if-not-in-run .taken) }
 
 pub returns : need.returns
 returns c =
