@@ -58,7 +58,7 @@ fn short_at(short: &[Option<u32>], rule: &Rule, possible: &[bool], p: usize) -> 
 }
 
 // Fills the table of short, from the first node on.
-pub fn fill_short(short: &mut Vec<Option<u32>>, rule: &Rule, possible: &[bool])
+pub(crate) fn fill_short(short: &mut Vec<Option<u32>>, rule: &Rule, possible: &[bool])
     requires room { ⌜ 512 ≤ vec-cap (now short) ⌝ }
     requires flags { ⌜ length (now possible) ≡ 256 ⌝ }
     ensures value { λ _. ⌜ IsShort (λ t. getD (now (possible .entry)) t false) (vec-items (now (rule .entry) .nodes)) (λ q. getD (vec-items (now (short .exit))) q None) ⌝ }
@@ -74,7 +74,7 @@ pub fn fill_short(short: &mut Vec<Option<u32>>, rule: &Rule, possible: &[bool])
 }
 
 // Fills the table of far, from the end mark down.
-pub fn fill_far(far: &mut [Option<u32>], rule: &Rule, next: &[u16], short: &[Option<u32>])
+pub(crate) fn fill_far(far: &mut [Option<u32>], rule: &Rule, next: &[u16], short: &[Option<u32>])
     requires next { ⌜ NextTable (vec-items (now rule .nodes)) (now next) ⌝ }
     requires low { ⌜ ((q : ℕ) → q < length (vec-items (now rule .nodes)) → AtMost 512 (getD (now short) q None)) ⌝ }
     requires short_len { ⌜ length (now short) ≡ length (vec-items (now rule .nodes)) ⌝ }

@@ -30,7 +30,7 @@ fn hand_down(next: &mut [u16], rule: &Rule, p: usize)
 }
 
 // Fills the table of next, from the root down.
-pub fn fill_next(next: &mut [u16], rule: &Rule)
+pub(crate) fn fill_next(next: &mut [u16], rule: &Rule)
     requires { ⌜ length (now next) ≡ length (vec-items (now rule .nodes)) ⌝ }
     ensures { λ _. ⌜ IsNext (vec-items (now (rule .entry) .nodes)) (λ q. getD (now (next .exit)) q 0) ⌝ }
 {

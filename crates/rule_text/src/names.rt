@@ -39,7 +39,7 @@ fn is_entry(filled: &Entry, name: &[u8]) -> bool
 }
 
 // The number of the first entry that is this name.
-pub fn find(names: &[Entry], name: &[u8]) -> Option<usize>
+pub(crate) fn find(names: &[Entry], name: &[u8]) -> Option<usize>
     ensures { λ r. ⌜ r ≡ testNamed (now (names .entry)) (now (name .entry)) ⌝ }
 {
     for (t, entry) in names.iter().enumerate() {
@@ -87,7 +87,7 @@ fn is_good(names: &[Entry], i: usize) -> bool
 }
 
 // Refuses a name list that breaks its rules, at the first byte of the first bad entry.
-pub fn check_names(names: &[Entry]) -> Result<(), Fault>
+pub(crate) fn check_names(names: &[Entry]) -> Result<(), Fault>
     ensures { λ r. ⌜ Cases r (λ _. GoodNames (now (names .entry))) (λ f. (f .refusal ≡ BadNames) × NamesFault (now (names .entry)) (f .place)) ⌝ }
 {
     if names.is_empty() || names.len() > MAX_NAMES {

@@ -73,7 +73,7 @@ fn opposite<'a>(
 }
 
 // A choice: one chain, then any number of `|` and a chain.
-pub fn choice<'a>(
+pub(crate) fn choice<'a>(
     names: &[Entry],
     whole: usize,
     text: &'a [u8],

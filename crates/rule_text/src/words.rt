@@ -10,11 +10,11 @@ use refusals::Fault;
 use refusals::Refusal;
 
 // A name has at most this many bytes.
-pub const MAX_NAME: usize = 16;
+pub(crate) const MAX_NAME: usize = 16;
 
 // A word of a text, or its end. A name is that part of the text.
 #[derive(Clone, Copy)]
-pub enum Word<'a> {
+pub(crate) enum Word<'a> {
     Name(&'a [u8]),
     Nil,
     Void,
@@ -28,7 +28,7 @@ pub enum Word<'a> {
 
 // A word with its place, and the text behind it.
 #[derive(Clone, Copy)]
-pub struct Placed<'a> {
+pub(crate) struct Placed<'a> {
     pub word: Word<'a>,
     pub place: usize,
     pub rest: &'a [u8],
@@ -72,7 +72,7 @@ fn skip_blanks(whole: usize, text: &[u8]) -> &[u8]
 }
 
 // How many bytes the text's first run has.
-pub fn run_len(text: &[u8]) -> usize
+pub(crate) fn run_len(text: &[u8]) -> usize
     ensures within { λ r. ⌜ r ≤ length (now (text .entry)) ⌝ }
     ensures run { λ r. ⌜ take r (now (text .entry)) ≡ front (now (text .entry)) ⌝ }
 {
@@ -95,14 +95,14 @@ fn is_name(run: &[u8]) -> bool
 }
 
 // Whether a run is this word.
-pub fn spells(run: &[u8], word: &[u8]) -> bool
+pub(crate) fn spells(run: &[u8], word: &[u8]) -> bool
     ensures { λ r. ⌜ r ≡ sameBytes (now (run .entry)) (now (word .entry)) ⌝ }
 {
     run == word
 }
 
 // Whether a run is a name that can stand for a test.
-pub fn is_test_name(run: &[u8]) -> bool
+pub(crate) fn is_test_name(run: &[u8]) -> bool
     ensures { λ r. ⌜ r ≡ isTestName (now (run .entry)) ⌝ }
 {
     is_name(run) && !spells(run, b"nil") && !spells(run, b"void")
@@ -124,7 +124,7 @@ fn run_word<'a>(run: &'a [u8]) -> Option<Word<'a>>
 }
 
 // The first word of `text`, the last bytes of a text that has `whole`.
-pub fn next_word<'a>(whole: usize, text: &'a [u8]) -> Result<Placed<'a>, Fault>
+pub(crate) fn next_word<'a>(whole: usize, text: &'a [u8]) -> Result<Placed<'a>, Fault>
     requires { ⌜ length (now text) ≤ whole ⌝ }
     ensures { λ r. ⌜ ReadsWord whole (now (text .entry)) r ⌝ }
 {

@@ -103,7 +103,10 @@ fn is_rooted(nodes: &[Node]) -> bool
 }
 
 impl Draft {
-    fn new(heap: Global) -> Result<Draft, AllocError> {
+    // No node, with room for all.
+    fn new(heap: Global) -> Result<Draft, AllocError>
+        ensures { λ r. ⌜ made r (λ x. (vec-items (x .nodes) ≡ []) × (x .over ≡ false)) ⌝ }
+    {
         Ok(Draft {
             nodes: Vec::with_capacity(heap, MAX_NODES)?,
             over: false,
@@ -146,9 +149,9 @@ impl Draft {
 }
 
 impl Rule {
-    // A fresh rule: one void node.
+    // A fresh rule: one void node, and an empty draft.
     pub fn new(heap: Global) -> Result<Rule, AllocError>
-        ensures { λ r. ⌜ made r (λ x. vec-items (x .nodes) ≡ node Void 1 ∷ []) ⌝ }
+        ensures { λ r. ⌜ made r (λ x. (vec-items (x .nodes) ≡ node Void 1 ∷ []) × (vec-items (x .draft .nodes) ≡ []) × (x .draft .over ≡ false)) ⌝ }
     {
         let mut nodes = Vec::with_capacity(heap, MAX_NODES)?;
         nodes.push_reserved(Node {
@@ -161,6 +164,7 @@ impl Rule {
         })
     }
 
+    // The rule's list.
     pub fn nodes(&self) -> &[Node]
         ensures { λ r. ⌜ now r ≡ vec-items (now (self .entry) .nodes) ⌝ }
     {

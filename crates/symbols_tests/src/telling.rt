@@ -3,7 +3,7 @@ use refusals::Fault;
 use symbols::Showing;
 
 // The number of a refusal, or 0.
-pub fn refusal(r: Result<(), Fault>) -> u8 {
+pub(crate) fn refusal(r: Result<(), Fault>) -> u8 {
     match r {
         Ok(()) => 0,
         Err(fault) => fault.refusal.number(),
@@ -11,7 +11,7 @@ pub fn refusal(r: Result<(), Fault>) -> u8 {
 }
 
 // The number of the test that was added, or 1000 and the number of the refusal.
-pub fn added(r: Result<u8, Fault>) -> u16 {
+pub(crate) fn added(r: Result<u8, Fault>) -> u16 {
     match r {
         Ok(t) => t as u16,
         Err(fault) => 1000 + fault.refusal.number() as u16,
@@ -19,7 +19,7 @@ pub fn added(r: Result<u8, Fault>) -> u16 {
 }
 
 // Whether the kind says so of the test, and shows a symbol exactly where it says that there is one.
-pub fn answers<K: Showing>(
+pub(crate) fn answers<K: Showing>(
     kind: &K,
     t: u8,
     place: &mut K::Symbol,
