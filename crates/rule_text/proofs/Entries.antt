@@ -1,6 +1,6 @@
 -- Entries of a name list: what a name fills, and which entry is found.
 use mathlib.Core.Path.{_≡_, refl, sym, ap, _∙_}
-use mathlib.Core.Bool.{Bool, true, false, not, cond, _&&_}
+use mathlib.Core.Bool.{Bool, true, false, cond, _&&_}
 use mathlib.Core.List.{List, [], _∷_}
 use mathlib.Core.Logic.{inl, inr, ⊎-elim}
 use Prim.Native.Nat.{ℕ, zero, suc, _+_, _-_, _≤_, _<_}
@@ -12,7 +12,7 @@ use lib.Seq.{getD-take, getD-drop}
 use Rattle.std.proofs.shelf.Lists.{ext-getD, getD-past, length-take-le}
 use Rattle.std.proofs.shelf.Tests.{cases-bool, cases-lt, and-parts, eqb-true, eq-eqb, leb-true, cond-true, cond-false, both-ways, false≢true}
 use Rattle.std.proofs.shelf.Ways.{eqb-tells}
-use Rattle.std.specs.Options.{mapped, isSome}
+use Rattle.std.specs.Options.{mapped}
 use Rattle.std.specs.declared.option.Option.{Option}
 use Rattle.std.specs.declared.option.Option.the-variants.{Some, None}
 use Rattle.rule_text.specs.Words.{inRun, front, isName, letter}
@@ -154,15 +154,6 @@ module _ (names : List (List ℕ)) (x : List ℕ) (i : ℕ) (within : i ≤ leng
   new-none h = not-found (take (i - 0) names) x (λ k l.
       let j : k < i = omega (arith, length-take-le (i - 0) names (omega arith)) in
       ap (λ (n : List ℕ). isEntry n x) (first k j) ∙ h k j)
-
-pub none-is : (o : Option ℕ) (b : Bool) → isSome o ≡ not b → b ≡ true → o ≡ None
-none-is None b e t = refl
-none-is (Some n) true e t = absurd (false≢true (sym e))
-none-is (Some n) false e t = absurd (false≢true t)
-
-pub is-none : (o : Option ℕ) (b : Bool) → isSome o ≡ not b → o ≡ None → b ≡ true
-is-none o true e t = refl
-is-none o false e t = absurd (false≢true (sym (ap isSome t) ∙ e))
 
 -- a good name list has a name
 pub first-known : (names : List (List ℕ)) → GoodNames names → (x : List ℕ) × (t : ℕ) × (testNamed names x ≡ Some t)

@@ -4,6 +4,7 @@ ghost use Prim.Native.Nat.{_<_};
 ghost use lib.ListN.{length, getD};
 ghost use Rattle.std.specs.Orderings.{Decides};
 ghost use Rattle.std.specs.Results.{Cases};
+ghost use Rattle.std.specs.declared.option.Option.the-variants.{None};
 ghost use Rattle.refusals.specs.declared.Refusal.the-variants.{BadNames};
 ghost use Rattle.rule_text.specs.Names.{isEntry, testNamed, AllZero, EntryName, GoodEntry, GoodNames, NamesFault};
 use crate::words::MAX_NAME;
@@ -74,6 +75,16 @@ fn entry_name(filled: &Entry) -> Option<&[u8]>
     }
 }
 
+// Whether none of these entries is the name.
+fn is_new(names: &[Entry], name: &[u8]) -> bool
+    ensures { λ r. ⌜ Decides r (testNamed (now (names .entry)) (now (name .entry)) ≡ None) ⌝ }
+{
+    match find(names, name) {
+        Some(_) => false,
+        None => true,
+    }
+}
+
 // Whether entry i keeps the rules, judged with those before it.
 fn is_good(names: &[Entry], i: usize) -> bool
     requires { ⌜ i < length (now names) ⌝ }
@@ -81,7 +92,7 @@ fn is_good(names: &[Entry], i: usize) -> bool
 {
     match entry_name(&names[i]) {
         Some(name) if i == 0 => spells(name, b"any"),
-        Some(name) => find(&names[0..i], name).is_none(),
+        Some(name) => is_new(&names[0..i], name),
         None => false,
     }
 }

@@ -1,8 +1,8 @@
 // Tests of reading: name lists, the order of checks, and what a refusal leaves.
 #[cfg(test)]
 mod tests {
-    use rule_text::read;
     use rule_text::Entry;
+    use rule_text::read;
     use rules::Rule;
     use rules::Shape;
     use std::alloc::AllocError;
@@ -21,7 +21,11 @@ mod tests {
     }
 
     // The number and the place of the refusal; none where the text is taken.
-    fn answer(heap: Global, names: &[Entry], text: &[u8]) -> Result<Option<(u8, usize)>, AllocError> {
+    fn answer(
+        heap: Global,
+        names: &[Entry],
+        text: &[u8],
+    ) -> Result<Option<(u8, usize)>, AllocError> {
         let mut rule = Rule::new(heap)?;
         match read(names, text, &mut rule) {
             Ok(()) => Ok(None),
@@ -33,7 +37,11 @@ mod tests {
     fn many_names(heap: Global, count: u8) -> Result<Vec<Entry>, AllocError> {
         let mut names = Vec::new(heap);
         for i in 0..count {
-            let name = if i == 0 { *b"any" } else { [b'x', b'a' + i / 16, b'a' + i % 16] };
+            let name = if i == 0 {
+                *b"any"
+            } else {
+                [b'x', b'a' + i / 16, b'a' + i % 16]
+            };
             names.push(entry(&name))?;
         }
         Ok(names)
@@ -70,10 +78,16 @@ mod tests {
     fn lists(rt: LibcRuntime) -> Result<(), Fail> {
         let heap = rt.alloc();
         check_eq(answer(heap, &[], b"any")?, Some((18, 0)))?;
-        check_eq(answer(heap, &[entry(b"a"), entry(b"any")], b"a")?, Some((18, 0)))?;
+        check_eq(
+            answer(heap, &[entry(b"a"), entry(b"any")], b"a")?,
+            Some((18, 0)),
+        )?;
         check_eq(answer(heap, &[entry(b"any")], b"any")?, None)?;
         check_eq(answer(heap, &many_names(heap, 128)?, b"any xaf")?, None)?;
-        check_eq(answer(heap, &many_names(heap, 129)?, b"any")?, Some((18, 0)))
+        check_eq(
+            answer(heap, &many_names(heap, 129)?, b"any")?,
+            Some((18, 0)),
+        )
     }
 
     #[test]

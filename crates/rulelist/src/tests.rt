@@ -70,7 +70,7 @@ fn faults(rt: LibcRuntime) -> Result<(), Fail> {
 
 #[test]
 fn listings(rt: LibcRuntime) -> Result<(), Fail> {
-    let table: [(&[u8], &str); 11] = [
+    let table: [(&[u8], &str); 12] = [
         (b"void", "node kind test size next far\n0 void - 1 1 -\n"),
         (b"nil", "node kind test size next far\n0 nil - 1 1 0\n"),
         (b"any", "node kind test size next far\n0 leaf 0 1 1 1\n"),
@@ -92,6 +92,10 @@ fn listings(rt: LibcRuntime) -> Result<(), Fail> {
         (
             b"a b a",
             "node kind test size next far\n0 leaf 1 1 1 3\n1 leaf 2 1 3 2\n2 chain - 3 3 3\n3 leaf 1 1 5 1\n4 chain - 5 5 3\n",
+        ),
+        (
+            b"void a | b",
+            "node kind test size next far\n0 void - 1 1 -\n1 leaf 1 1 5 1\n2 chain - 3 5 -\n3 leaf 2 1 5 1\n4 choice - 5 5 1\n",
         ),
         (
             b"a void | b",

@@ -45,14 +45,6 @@ mod tests {
         },
     ];
 
-    // Takes the records; the number and the place of the refusal, none where they are taken.
-    fn answer(rule: &mut Rule, records: &[Record]) -> Option<(u8, usize)> {
-        match rule.take(records) {
-            Ok(()) => None,
-            Err(fault) => Some((fault.refusal.number(), fault.place)),
-        }
-    }
-
     // Whether the rule's nodes are those of these records.
     fn holds(rule: &Rule, records: &[Record]) -> bool {
         let mut same = rule.nodes().len() == records.len();
@@ -63,15 +55,25 @@ mod tests {
         same
     }
 
+    // Whether the rule takes the records, and then holds their nodes.
+    fn taken(rule: &mut Rule, records: &[Record]) -> bool {
+        rule.take(records).is_ok() && holds(rule, records)
+    }
+
+    // Whether the rule refuses the records at this place, by the refusal of node lists.
+    fn refused(rule: &mut Rule, records: &[Record], place: usize) -> bool {
+        match rule.take(records) {
+            Ok(()) => false,
+            Err(fault) => fault.refusal.number() == 19 && fault.place == place,
+        }
+    }
+
     // Lists of one record: each shape, and numbers that no node has.
     #[test]
     fn single_records(rt: LibcRuntime) -> Result<(), Fail> {
         let mut rule = Rule::new(rt.alloc())?;
-        let good = [(0, 0, 1), (1, 0, 1), (2, 0, 1), (2, 7, 1), (2, 255, 1)];
-        for (code, test, size) in good {
-            let list = [record(code, test, size)];
-            check_eq(answer(&mut rule, &list), None)?;
-            check(holds(&rule, &list))?;
+        for (code, test, size) in [(0, 0, 1), (1, 0, 1), (2, 0, 1), (2, 7, 1), (2, 255, 1)] {
+            check(taken(&mut rule, &[record(code, test, size)]))?;
         }
         let bad = [
             (3, 0, 1),
@@ -93,40 +95,35 @@ mod tests {
             (1, 255, 1),
         ];
         for (code, test, size) in bad {
-            check_eq(
-                answer(&mut rule, &[record(code, test, size)]),
-                Some((19, 0)),
-            )?;
+            check(refused(&mut rule, &[record(code, test, size)], 0))?;
         }
-        Ok(())
+        check(holds(&rule, &[record(2, 255, 1)]))
     }
 
-    // Lists of a few records.
+    // Lists of a few records; a refused one leaves the rule as it was.
     #[test]
     fn short_lists(rt: LibcRuntime) -> Result<(), Fail> {
         let mut rule = Rule::new(rt.alloc())?;
         let leaf = record(2, 7, 1);
-        check_eq(answer(&mut rule, &SAMPLE), None)?;
-        check(holds(&rule, &SAMPLE))?;
-        // each refused list leaves the rule as it was
-        check_eq(answer(&mut rule, &[]), Some((19, 0)))?;
-        check_eq(answer(&mut rule, &[leaf, leaf]), Some((19, 2)))?;
-        check_eq(answer(&mut rule, &[leaf, record(3, 0, 2)]), Some((19, 1)))?;
-        check_eq(
-            answer(&mut rule, &[leaf, leaf, record(3, 1, 3)]),
-            Some((19, 2)),
-        )?;
-        check_eq(
-            answer(&mut rule, &[leaf, leaf, record(4, 0, 2)]),
-            Some((19, 2)),
-        )?;
-        check_eq(
-            answer(&mut rule, &[leaf, record(5, 0, 4294967295), leaf]),
-            Some((19, 1)),
-        )?;
-        check_eq(answer(&mut rule, &[leaf, record(5, 1, 2)]), Some((19, 1)))?;
-        check(holds(&rule, &SAMPLE))?;
-        check_eq(answer(&mut rule, &[leaf, record(5, 0, 2)]), None)
+        check(taken(&mut rule, &SAMPLE))?;
+        check(refused(&mut rule, &[], 0))?;
+        let seconds = [
+            // two trees
+            (leaf, 2),
+            (record(3, 0, 2), 1),
+            (record(5, 0, 0), 1),
+            (record(5, 0, 65535), 1),
+            (record(5, 0, 4294967295), 1),
+            (record(5, 1, 2), 1),
+        ];
+        for (second, place) in seconds {
+            check(refused(&mut rule, &[leaf, second], place))?;
+        }
+        // a test on a chain, and a size that leaves a child out
+        for third in [record(3, 1, 3), record(4, 0, 2), record(5, 0, 3)] {
+            check(refused(&mut rule, &[leaf, leaf, third], 2))?;
+        }
+        check(holds(&rule, &SAMPLE))
     }
 
     // A leaf, then a leaf and a chain in turn: each chain's left child is all that stands before its right child.
@@ -154,12 +151,11 @@ mod tests {
 
     // A list of 511 nodes with a repeat over it, and with one more.
     fn limits(rule: &mut Rule, mut list: Vec<Record>) -> Result<(), Fail> {
-        check_eq(answer(rule, &list), None)?;
+        check(taken(rule, &list))?;
         list.push(record(5, 0, 512))?;
-        check_eq(answer(rule, &list), None)?;
-        check(holds(rule, &list))?;
+        check(taken(rule, &list))?;
         list.push(record(5, 0, 513))?;
-        check_eq(answer(rule, &list), Some((19, 512)))?;
+        check(refused(rule, &list, 512))?;
         check(rule.nodes().len() == 512)
     }
 
@@ -170,24 +166,24 @@ mod tests {
         limits(&mut rule, left_deep(rt.alloc())?)?;
         limits(&mut rule, right_deep(rt.alloc())?)?;
         let mut list = [record(2, 1, 1); 600];
-        check_eq(answer(&mut rule, &list[0..512]), Some((19, 512)))?;
+        check(refused(&mut rule, &list[0..512], 512))?;
         list[3] = record(6, 0, 0);
-        check_eq(answer(&mut rule, &list[0..512]), Some((19, 3)))?;
-        check_eq(answer(&mut rule, &list), Some((19, 512)))
+        check(refused(&mut rule, &list[0..512], 3))?;
+        check(refused(&mut rule, &list, 512))
     }
 
     // A rule's nodes, given out and taken into another rule.
     #[test]
     fn out_and_in(rt: LibcRuntime) -> Result<(), Fail> {
         let mut from = Rule::new(rt.alloc())?;
-        check_eq(answer(&mut from, &SAMPLE), None)?;
+        check(taken(&mut from, &SAMPLE))?;
         let mut list = Vec::new(rt.alloc());
         for node in from.nodes() {
             list.push(node.record())?;
         }
         let mut to = Rule::new(rt.alloc())?;
         check(holds(&to, &[record(0, 0, 1)]))?;
-        check_eq(answer(&mut to, &list), None)?;
+        check(taken(&mut to, &list))?;
         check(holds(&to, &SAMPLE))
     }
 }

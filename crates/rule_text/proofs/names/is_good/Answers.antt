@@ -8,7 +8,7 @@ use lib.Chars.{codes}
 use lib.ListN.{length, getD}
 use Rattle.std.proofs.shelf.Equals.{sameBytes-decides}
 use Rattle.rule_text.specs.Names.{Fills, isEntry}
-use Rattle.rule_text.proofs.Entries.{fills-run, new-from, new-none, none-is, is-none}
+use Rattle.rule_text.proofs.Entries.{fills-run, new-from, new-none}
 use Rattle.rule_text.proofs.names.is_good.Needs as need
 
 only : (e x y : List ℕ) → length e ≡ 16 → Fills e x → Fills e y → x ≡ y
@@ -36,10 +36,9 @@ returns-in-Some-2 c =
         own = x;
         fills = fills;
         first = λ z. absurd (c .if-i-eq0 .left z);
-        new = new-from names x (c .args .i) (omega (arith, c .pre)) (sym (c .find .ensures) ∙ none-is (c .find .result) (c .is-none .result) (c .is-none .ensures) r);
+        new = new-from names x (c .args .i) (omega (arith, c .pre)) (c .is-new .ensures .0 r);
       }),
       (λ g.
           let same = only _ (g .own) x (c .told-names (c .args .i) (c .pre)) (g .fills) fills in
-          is-none (c .find .result) (c .is-none .result) (c .is-none .ensures)
-          (c .find .ensures ∙ new-none names x (c .args .i) (omega (arith, c .pre)) (λ j h. subst (λ (y : List ℕ). isEntry (getD names j []) y ≡ false) same (g .new j h)))),
+          c .is-new .ensures .1 (new-none names x (c .args .i) (omega (arith, c .pre)) (λ j h. subst (λ (y : List ℕ). isEntry (getD names j []) y ≡ false) same (g .new j h)))),
     )
