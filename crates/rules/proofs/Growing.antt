@@ -1,5 +1,5 @@
 -- A node that is added with the size that its shape asks fits, and those before it still do.
-use mathlib.Core.Path.{_≡_, refl, sym, _∙_, ap}
+use mathlib.Core.Path.{_≡_, refl, sym, _∙_, ap, subst}
 use mathlib.Core.List.{List, [], _∷_, _++_}
 use mathlib.Core.Bool.{true}
 use mathlib.Core.Logic.{inl, inr}
@@ -14,7 +14,7 @@ use Rattle.std.specs.declared.option.Option.the-variants.{Some}
 use Rattle.rules.specs.declared.node.Node.{Node}
 use Rattle.rules.specs.declared.node.Shape.{Shape}
 use Rattle.rules.specs.declared.node.Shape.the-variants.{Void, Nil, Leaf, Join, Repeat}
-use Rattle.rules.specs.Nodes.{node, noNode, sizeAt, shapeAt, sizeFor, joinedSize, isSize, fitsAt, Fitting}
+use Rattle.rules.specs.Nodes.{node, noNode, sizeAt, shapeAt, sizeFor, joinedSize, isSize, fitsAt, Fitting, testOf, TestsFit}
 
 -- a node's size is told by the sizes before it
 joined-from : (size size′ : ℕ → ℕ) (i : ℕ) → ((j : ℕ) → j < i → size j ≡ size′ j) → joinedSize size i ≡ joinedSize size′ i
@@ -45,4 +45,14 @@ module _ (ns : List Node) (x : Shape) (s : ℕ) where
     | inr d ↦
         (let k : i < length ns = omega (arith, length-append ns (node x s ∷ [])) in
         fits-as _ i (getD ns i noNode) _ (before i k) (sizes i (omega arith) (shapeAt ns i)) (f i k))
+  ]
+
+  -- a test that fits is added to tests that fit
+  pub pushed-tests : TestsFit ns → testOf x ≤ 255 → TestsFit (ns ++ node x s ∷ [])
+  pushed-tests f e i h = elim (eqb-tells i (length ns)) [
+    | inl d ↦ subst (λ (n : Node). testOf (n .shape) ≤ 255) (sym (getD-push ns (node x s) noNode i (sym (d .1)))) e
+    | inr d ↦ (
+        let k : i < length ns = omega (arith, length-append ns (node x s ∷ [])) in
+        subst (λ (n : Node). testOf (n .shape) ≤ 255) (sym (before i k)) (f i k)
+        )
   ]

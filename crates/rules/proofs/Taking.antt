@@ -18,8 +18,8 @@ use Rattle.rules.specs.declared.node.Shape.{Shape}
 use Rattle.rules.specs.declared.node.Shape.the-variants.{Void, Nil, Leaf, Join, Repeat}
 use Rattle.rules.specs.declared.node.Node.{Node}
 use Rattle.rules.specs.declared.record.Record.{Record}
-use Rattle.rules.specs.Nodes.{node, noNode, shapeAt, sizeAt, isSize, Fitting, Rooted}
-use Rattle.rules.specs.Records.{codeOf, testOf, recordOf, Tells, Good, noRecord, sizeIn, GoodAt, EndsInRoot, BadAt, tooMany, badRecord, noRoot, TestsFit, RecordsOf, OneAnswer, ComesBack}
+use Rattle.rules.specs.Nodes.{node, noNode, shapeAt, sizeAt, isSize, Fitting, Rooted, testOf, TestsFit}
+use Rattle.rules.specs.Records.{codeOf, recordOf, Tells, Good, noRecord, sizeIn, GoodAt, EndsInRoot, BadAt, tooMany, badRecord, noRoot, RecordsOf, OneAnswer, ComesBack}
 use Rattle.rules.proofs.Growing.{size-from}
 
 -- the shape that a code and a test tell, and the node that a record does
@@ -87,9 +87,6 @@ module _ (ns : List Node) (rs : List Record) (e : map recordOf ns ≡ rs) where
   pub roots-back : EndsInRoot rs → Rooted ns
   roots-back r = (omega (arith, same-length, r .0), sym (size-of ns (length ns - 1)) ∙ (let s : EndsInRoot (map recordOf ns) = rw e r in rw (length-map ns recordOf) at (s .1)))
 
-  pub tests-fit : ((i : ℕ) → i < length rs → GoodAt rs i) → TestsFit ns
-  tests-fit g i h = omega (arith, g i (omega (arith, same-length)) .tells .2, ap (λ (r : Record). r .test) (record-at ns i), ap (λ (xs : List Record). getD xs i noRecord .test) e)
-
 -- after the nodes of the first i records
 module _ (ns : List Node) (rs : List Record) (i : ℕ) (e : map recordOf ns ≡ take i rs) (h : i < length rs) where
   pub so-many : length ns ≡ i
@@ -116,7 +113,7 @@ module _ (ns : List Node) (rs : List Record) (i : ℕ) (e : map recordOf ns ≡ 
 -- a list that is taken is nowhere refused
 not-both : (ns : List Node) (rs : List Record) (p : ℕ) → RecordsOf ns rs → BadAt rs p → ⊥
 not-both ns rs p a (tooMany h e) = omega (arith, same-length ns rs (a .0), a .1 .2)
-not-both ns rs p a (badRecord h i g b) = b (subst (λ (xs : List Record). GoodAt xs p) (a .0) (node-good ns (a .1 .0) (a .2) p (omega (arith, same-length ns rs (a .0)))))
+not-both ns rs p a (badRecord h i g b) = b (subst (λ (xs : List Record). GoodAt xs p) (a .0) (node-good ns (a .1 .0) (a .1 .3) p (omega (arith, same-length ns rs (a .0)))))
 not-both ns rs p a (noRoot h e g b) = b (roots ns rs (a .0) (a .1 .1))
 
 one-place : (rs : List Record) (p q : ℕ) → BadAt rs p → BadAt rs q → p ≡ q
@@ -144,4 +141,4 @@ one-answer rs old new new′ (Err f) (Ok v) a b = absurd (not-both new′ rs (f 
 one-answer rs old new new′ (Err f) (Err f′) a b = (ap Err (same-fault f f′ (a .0 ∙ sym (b .0)) (one-place rs (f .place) (f′ .place) (a .1) (b .1))), a .2 ∙ sym (b .2))
 
 pub comes-back : ComesBack
-comes-back ns old new r w t a = one-answer (map recordOf ns) old new ns r (Ok tt) a (refl, w, t)
+comes-back ns old new r w a = one-answer (map recordOf ns) old new ns r (Ok tt) a (refl, w)

@@ -59,9 +59,21 @@ Fitting ns = (i : ℕ) → i < length ns → fitsAt ns i ≡ true
 abbrev pub Rooted : List Node → Type 0
 Rooted ns = (0 < length ns) × (sizeAt ns (length ns - 1) ≡ length ns)
 
--- a rule's list: fitting nodes, the last of them the root of all, 1 to 512 of them
+-- the test of a leaf; 0 of every other shape
+abbrev pub testOf : Shape → ℕ
+testOf Void = 0
+testOf Nil = 0
+testOf (Leaf t) = t
+testOf (Join o) = 0
+testOf Repeat = 0
+
+-- each test is at most 255
+abbrev pub TestsFit : List Node → Type 0
+TestsFit ns = (i : ℕ) → i < length ns → testOf (shapeAt ns i) ≤ 255
+
+-- a rule's list: fitting nodes, the last of them the root of all, 1 to 512 of them, and tests that fit
 abbrev pub WellFormed : List Node → Type 0
-WellFormed ns = Fitting ns × Rooted ns × (length ns ≤ 512)
+WellFormed ns = Fitting ns × Rooted ns × (length ns ≤ 512) × TestsFit ns
 
 -- what a node of this shape at i is, with its children's numbers, where s is the size of the node before it
 abbrev pub formOf : Shape → ℕ → ℕ → Form

@@ -15,7 +15,7 @@ use Rattle.rules.specs.declared.node.Shape.{Shape}
 use Rattle.rules.specs.declared.node.Shape.the-variants.{Void, Nil, Leaf, Join, Repeat}
 use Rattle.rules.specs.declared.node.Node.{Node}
 use Rattle.rules.specs.declared.record.Record.{Record}
-use Rattle.rules.specs.Nodes.{node, noNode, shapeAt, sizeAt, sizeFor, WellFormed}
+use Rattle.rules.specs.Nodes.{node, noNode, sizeAt, sizeFor, WellFormed, testOf}
 
 -- the number that tells each shape
 abbrev pub codeOf : Shape → ℕ
@@ -25,15 +25,6 @@ codeOf (Leaf t) = 2
 codeOf (Join Chain) = 3
 codeOf (Join Choice) = 4
 codeOf Repeat = 5
-
--- the test of a leaf; 0 of every other shape
-abbrev pub testOf : Shape → ℕ
-testOf Void = 0
-testOf Nil = 0
-testOf (Leaf t) = t
-testOf (Join Chain) = 0
-testOf (Join Choice) = 0
-testOf Repeat = 0
 
 -- a node as plain numbers
 abbrev pub recordOf : Node → Record
@@ -79,13 +70,9 @@ pub data BadAt (rs : List Record) (place : ℕ) : Type 0 where
   -- each is good, and the last is not the root of all
   noRoot : length rs ≤ 512 → place ≡ length rs → ((i : ℕ) → i < length rs → GoodAt rs i) → (EndsInRoot rs → ⊥) → BadAt rs place
 
--- each leaf's test is at most 255
-abbrev pub TestsFit : List Node → Type 0
-TestsFit ns = (i : ℕ) → i < length ns → testOf (shapeAt ns i) ≤ 255
-
 -- the records are those of a well-formed list
 abbrev pub RecordsOf : List Node → List Record → Type 0
-RecordsOf ns rs = (map recordOf ns ≡ rs) × WellFormed ns × TestsFit ns
+RecordsOf ns rs = (map recordOf ns ≡ rs) × WellFormed ns
 
 -- what taking the records into a rule that holds the list old answers, and the list that it then holds
 abbrev pub Takes : List Record → List Node → Result (Unit {0}) Fault → List Node → Type 0
@@ -108,4 +95,4 @@ OneAnswer = (rs : List Record) (old new new′ : List Node) (r r′ : Result (Un
 
 -- a rule's list that is given out as records and taken again, into any rule, is accepted and is that list
 abbrev pub ComesBack : Type 0
-ComesBack = (ns old new : List Node) (r : Result (Unit {0}) Fault) → WellFormed ns → TestsFit ns → Takes (map recordOf ns) old r new → (r ≡ Ok tt) × (new ≡ ns)
+ComesBack = (ns old new : List Node) (r : Result (Unit {0}) Fault) → WellFormed ns → Takes (map recordOf ns) old r new → (r ≡ Ok tt) × (new ≡ ns)

@@ -8,7 +8,7 @@ ghost use lib.ListN.{length};
 ghost use Rattle.std.specs.Of.Vec.{vec-items, vec-len, vec-cap};
 ghost use Rattle.std.specs.Orderings.{Decides};
 ghost use Rattle.std.specs.Vec.{made};
-ghost use Rattle.rules.specs.Nodes.{Fitting, Rooted, WellFormed, formAt, grown, node, sizeFor, joinedSize, sizeAt};
+ghost use Rattle.rules.specs.Nodes.{Fitting, testOf, TestsFit, Rooted, WellFormed, formAt, grown, node, sizeFor, joinedSize, sizeAt};
 ghost use Rattle.rules.specs.Records.{Adds, NodeOf};
 ghost use Rattle.rules.specs.declared.node.Shape.the-variants.{Void};
 use crate::node::Form;
@@ -28,6 +28,7 @@ pub struct Draft {
     nodes: Vec<Node>,
     over: bool,
     ghost fitting: { Fitting (vec-items nodes) },
+    ghost tests: { TestsFit (vec-items nodes) },
     ghost few: { vec-len nodes ≤ 512 },
     ghost room: { 512 ≤ vec-cap nodes },
 }
@@ -45,10 +46,12 @@ pub struct Rule {
 fn size_for(nodes: &[Node], shape: Shape) -> Option<u16>
     requires fitting { ⌜ Fitting (now nodes) ⌝ }
     requires few { ⌜ length (now nodes) < 512 ⌝ }
-    ensures { λ r. ⌜ r ≡ sizeFor (sizeAt (now (nodes .entry))) shape (length (now (nodes .entry))) ⌝ }
+    ensures size { λ r. ⌜ r ≡ sizeFor (sizeAt (now (nodes .entry))) shape (length (now (nodes .entry))) ⌝ }
+    ensures test { λ _. ⌜ testOf shape ≤ 255 ⌝ }
 {
     match shape {
-        Shape::Void | Shape::Nil | Shape::Leaf(_) => Some(1),
+        Shape::Void | Shape::Nil => Some(1),
+        Shape::Leaf(_test) => Some(1),
         Shape::Join(_) => joined_size(nodes),
         Shape::Repeat => {
             if nodes.len() == 0 {

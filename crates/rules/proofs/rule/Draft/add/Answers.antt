@@ -2,14 +2,15 @@
 use mathlib.Core.Path.{_≡_, refl, _∙_, ap, sym, subst}
 use mathlib.Core.List.{List, [], _∷_, _++_}
 use Prim.Native.Nat.{ℕ}
+use native.Mathlib.Omega.{arith}
 use borrow.Author.Needs.{needs}
 use Rattle.std.specs.Of.Vec.{vec-items}
 use Rattle.std.specs.declared.option.Option.the-variants.{Some}
 use Rattle.rules.specs.declared.node.Node.{Node}
 use Rattle.rules.specs.declared.record.Record.{Record}
-use Rattle.rules.specs.Nodes.{node, Fitting}
+use Rattle.rules.specs.Nodes.{node, Fitting, TestsFit}
 use Rattle.rules.specs.Records.{NodeOf}
-use Rattle.rules.proofs.Growing.{pushed-fits}
+use Rattle.rules.proofs.Growing.{pushed-fits, pushed-tests}
 use Rattle.rules.proofs.rule.Draft.add.Needs as need
 
 -- what is known of the node holds over the draft's own list
@@ -17,7 +18,7 @@ told : (ms ns : List Node) (r : Record) (n : Node) → ms ≡ ns → NodeOf ms r
 told ms ns r n e t = subst (λ (xs : List Node). NodeOf xs r (Some n)) e t
 
 pub ghost-self : need.ghost-self
-ghost-self c = (subst Fitting (sym (c .push-reserved .ensures .items)) (pushed-fits (vec-items (c .args .self .now .nodes)) (c .in-Some .node .shape) (c .in-Some .node .size) (c .args .self .now .fitting) (sym (told _ _ (c .args .given) (c .in-Some .node) (c .deref .ensures .value) (c .in-Some .ensures tt) .1))), (search needs, (search needs, tt)))
+ghost-self c = (subst Fitting (sym (c .push-reserved .ensures .items)) (pushed-fits (vec-items (c .args .self .now .nodes)) (c .in-Some .node .shape) (c .in-Some .node .size) (c .args .self .now .fitting) (sym (told _ _ (c .args .given) (c .in-Some .node) (c .deref .ensures .value) (c .in-Some .ensures tt) .1))), (subst TestsFit (sym (c .push-reserved .ensures .items)) (pushed-tests (vec-items (c .args .self .now .nodes)) (c .in-Some .node .shape) (c .in-Some .node .size) (c .args .self .now .tests) (let t = c .in-Some .ensures tt .0 in omega arith)), (search needs, (search needs, tt))))
 
 pub returns : need.returns
 returns c =

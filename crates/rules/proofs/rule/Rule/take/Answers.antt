@@ -8,7 +8,7 @@ use Rattle.std.proofs.shelf.Lists.{take-all}
 use Rattle.std.specs.Of.Vec.{vec-items}
 use Rattle.rules.specs.declared.node.Node.{Node}
 use Rattle.rules.specs.Records.{GoodAt, BadAt, badRecord, noRoot, RecordsOf, recordOf}
-use Rattle.rules.proofs.Taking.{so-many, judged, judged-back, one-more, same-length, tests-fit, roots-back}
+use Rattle.rules.proofs.Taking.{so-many, judged, judged-back, one-more, same-length, roots-back}
 use Rattle.rules.proofs.rule.Rule.take.Needs as need
 
 pub add-requires : need.add-requires
@@ -42,8 +42,7 @@ returns-then-adopt c =
     let all : map recordOf ns ≡ rs = c .loop-i .inv .0 ∙ take-all (c .loop-i .i) rs (c .loop-i-test .left) in
     subst (λ (ms : List Node). RecordsOf ms rs) (sym (c .if-adopt .ensures tt .nodes)) (
       all,
-      (c .loop-i .self .draft .fitting, c .if-adopt .ensures tt .whether .0 refl .1, omega (arith, same-length ns rs all)),
-      tests-fit ns rs all (λ k h. c .loop-i .inv .1 k (omega arith)),
+      (c .loop-i .self .draft .fitting, c .if-adopt .ensures tt .whether .0 refl .1, omega (arith, same-length ns rs all), c .loop-i .self .draft .tests),
     )
 
 pub returns-else-adopt : need.returns-else-adopt
