@@ -2,6 +2,8 @@
 #[cfg(test)]
 mod byte_kinds;
 #[cfg(test)]
+mod plain;
+#[cfg(test)]
 mod row_kinds;
 #[cfg(test)]
 mod rows;

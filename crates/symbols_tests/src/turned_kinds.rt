@@ -1,4 +1,6 @@
 // Turned kinds: the opposites of tests, up to 256, and the refusal past 128.
+use crate::plain::Plain;
+use crate::plain::PlainKind;
 use crate::telling::added;
 use crate::telling::answers;
 use std::test::*;
@@ -64,5 +66,16 @@ fn turned_to_256(rt: LibcRuntime) -> Result<(), Fail> {
     match Turned::over(twice) {
         Ok(_) => Err(Fail::new("256 tests are turned")),
         Err(back) => check_eq(back.fault.refusal.number(), 47),
+    }
+}
+
+#[test]
+fn not_turned_from_129(_rt: LibcRuntime) -> Result<(), Fail> {
+    match Turned::over(Plain { mark: 7 }) {
+        Ok(_) => Err(Fail::new("129 tests are turned")),
+        Err(back) => {
+            check_eq(back.kind.mark, 7)?;
+            check_eq(back.fault.refusal.number(), 47)
+        }
     }
 }
