@@ -1,4 +1,6 @@
 // Why a call refuses: one fault type for the whole library.
+#![tactic(auto)]
+
 ghost use Rattle.std.specs.Prelude.{◌≡◌};
 ghost use Rattle.refusals.specs.Table.{number_of, layer_of, name_of};
 

@@ -1,4 +1,5 @@
 // Tests of writing: each place where brackets must and must not stand, reading back, the limits, and the order of checks.
+#![tactic(auto)]
 #[cfg(test)]
 mod tests {
     use rule_text::{Entry, read};
