@@ -1,5 +1,6 @@
 // Rules: well-formed lists of nodes, and room to draft the next one.
 #![tactic(auto)]
+
 ghost use Rattle.rules.specs.Children.{OneParent};
 
 mod node;

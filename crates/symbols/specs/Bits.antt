@@ -5,7 +5,7 @@ use Rattle.std.proofs.Math.Path.{refl}
 use Rattle.std.proofs.Math.Nat.{zero-div}
 use Rattle.std.proofs.lemmas.Nat.{le-div}
 use Rattle.std.proofs.lemmas.List.{get_or_past, length-replicate, get_or-replicate}
-use Rattle.std.proofs.lemmas.Bool.{and_cases, and_parts, cases_Bool, cases_lt, le-leb, lt-leb, not_false, true≢false}
+use Rattle.std.proofs.lemmas.Bool.{and_cases, and_parts, cases_Bool, cases_lt, le-leb, lt-leb, not-false, true≢false}
 use Rattle.std.proofs.lemmas.Bool.Decides.{Decides-below_and}
 use Rattle.symbols.specs.Hooks.{every_below, bit_of, none_from}
 
@@ -97,4 +97,4 @@ module _ (bytes : List ℕ) (start : ℕ) where
   pub none_some : none_from bytes start ≡ false → (h : ℕ) × (h < 256) × (bit_of bytes h ≡ true)
   none_some some =
       let found = every_some (λ h. not (nat_le start h && bit_of bytes h)) 256 some in
-      (found.0, found.1, (and_parts (nat_le start found.0) (bit_of bytes found.0) (not_false (nat_le start found.0 && bit_of bytes found.0) found.2)).1)
+      (found.0, found.1, (and_parts (nat_le start found.0) (bit_of bytes found.0) (not-false (nat_le start found.0 && bit_of bytes found.0) found.2)).1)

@@ -3,7 +3,7 @@
 use Rattle.std.specs.Prelude.{◌≡◌, ℕ, Bool, true, false, not, Decides, refl}
 use Rattle.std.proofs.Math.Bool.{Bool-set}
 use Rattle.std.proofs.Math.Logic.{∥∥₁_elim, ∥∥₁_map}
-use Rattle.std.proofs.lemmas.Bool.{not-true, not_false, not_from_true, not_from_false, true≢false}
+use Rattle.std.proofs.lemmas.Bool.{not-true, not-false, not_from_true, not_from_false, true≢false}
 use Rattle.std.proofs.lemmas.Bool.Decides.{Decides-like}
 use Rattle.symbols.specs.declared.turned.Place.{Place}
 use Rattle.symbols.specs.declared.turned.Place.TheVariants.{Same, Opposite, Past}
@@ -37,7 +37,7 @@ module _ {S : Type 0} (meets : ℕ → S → Bool) (can_meet can_fail : ℕ → 
   place_failable (Opposite u) =
       Decides-like (can_meet u)
       (λ h. ∥∥₁_map h (λ x. (x.0, not_from_true (meets u x.0) x.1)))
-      (λ h. ∥∥₁_map h (λ x. (x.0, not_false (meets u x.0) x.1)))
+      (λ h. ∥∥₁_map h (λ x. (x.0, not-false (meets u x.0) x.1)))
       (meetable u)
   place_failable Past = (λ _. ∥∥₁_map some (λ s. (s, refl)), λ _. refl)
 

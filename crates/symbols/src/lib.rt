@@ -1,5 +1,6 @@
 // Kinds of symbol: the traits that say what a kind is and how it shows a symbol, bytes, rows, and kinds with the opposites of their tests.
 #![tactic(auto)]
+
 mod bytes;
 mod kind;
 mod limits;

@@ -20,7 +20,7 @@ returns c =
     record {
       nodes = (
         record { shape = c.in-Some.node.shape; tells = t.0; fits = t.1 ∙ ap Some (sym t.2) },
-        c.push-reserved.ensures.items ∙ ap (λ (s : ℕ). vec_items c.args.self.now.nodes ++ node c.in-Some.node.shape s ∷ []) (sym t.2),
+        c.push_reserved.ensures.items ∙ ap (λ (s : ℕ). vec_items c.args.self.now.nodes ++ node c.in-Some.node.shape s ∷ []) (sym t.2),
       );
       over = refl;
     }

@@ -13,8 +13,8 @@ pub returns-then-not-add : goal.returns-then-not-add
 returns-then-not-add c =
     let ns = vec_items c.loop-i.self.draft.nodes in
     let rs = c.args.records.now in (
-      c.bad-nodes-then-not-add.ensures.refusal,
-      subst (BadAt rs) (sym c.bad-nodes-then-not-add.ensures.place) (bad_record c.loop-i.invariant.3 c.loop-i-test.true c.loop-i.invariant.1 (λ g. c.if-not-add.ensures.nodes.0 (judged_back ns rs c.loop-i.i c.loop-i.invariant.0 c.loop-i-test.true g))),
+      c.bad_nodes-then-not-add.ensures.refusal,
+      subst (BadAt rs) (sym c.bad_nodes-then-not-add.ensures.place) (bad_record c.loop-i.invariant.3 c.loop-i-test.true c.loop-i.invariant.1 (λ g. c.if-not-add.ensures.nodes.0 (judged_back ns rs c.loop-i.i c.loop-i.invariant.0 c.loop-i-test.true g))),
       c.loop-i.invariant.4,
     )
 
@@ -45,7 +45,7 @@ returns-else-adopt c =
     let ns = vec_items c.loop-i.self.draft.nodes in
     let rs = c.args.records.now in
     let all : map record_of ns ≡ rs = c.loop-i.invariant.0 ∙ take_all c.loop-i.i rs c.loop-i-test.false in (
-      c.bad-nodes-else-adopt.ensures.refusal,
-      no_root c.loop-i.invariant.3 c.bad-nodes-else-adopt.ensures.place (λ k h. c.loop-i.invariant.1 k (omega arith)) (λ r. let d = c.if-adopt.ensures.whether.1 (c.loop-i.invariant.2, roots_back ns rs all r) in let z : ◌≡◌ {A = ℕ} 0 1 = cc in omega arith),
+      c.bad_nodes-else-adopt.ensures.refusal,
+      no_root c.loop-i.invariant.3 c.bad_nodes-else-adopt.ensures.place (λ k h. c.loop-i.invariant.1 k (omega arith)) (λ r. let d = c.if-adopt.ensures.whether.1 (c.loop-i.invariant.2, roots_back ns rs all r) in let z : ◌≡◌ {A = ℕ} 0 1 = cc in omega arith),
       c.if-adopt.ensures.nodes ∙ c.loop-i.invariant.4,
     )
