@@ -1,10 +1,10 @@
 -- The sizes of a fitting list: each part has a node, and begins within the list.
-use Rattle.std.proofs.Common.{◌≡◌, ℕ, zero, suc, ◌+◌, ◌-◌, ◌<◌, ◌≤◌, Bool, true, false, cond, eqb, ltb, List, length, Some, None, Option, sym, refl, arith}
+use Rattle.std.proofs.Common.{◌≡◌, ℕ, zero, suc, ◌+◌, ◌-◌, ◌<◌, ◌≤◌, Bool, true, false, cond, ltb, List, length, Some, None, refl, arith}
 use Rattle.std.proofs.lemmas.Bool.{eqb-true, ltb-true}
 use Rattle.rules.specs.declared.node.Node.{Node}
 use Rattle.rules.specs.declared.node.Shape.{Shape}
 use Rattle.rules.specs.declared.node.Shape.TheVariants.{Void, Nil, Leaf, Join, Repeat}
-use Rattle.rules.specs.Nodes.{size_at, shape_at, size_for, joined_size, repeated_size, is_size, fits_at, Fitting}
+use Rattle.rules.specs.Nodes.{size_at, shape_at, size_for, joined_size, repeated_size, is_size, Fitting}
 
 pub strong : (P : ℕ → Type 0) → ((a : ℕ) → ((b : ℕ) → b < a → P b) → P a) → (a : ℕ) → P a
 strong P step a = go (suc a) a (omega arith)

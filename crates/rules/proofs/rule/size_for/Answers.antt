@@ -3,7 +3,7 @@ use Rattle.std.proofs.Common.{◌-◌, length, arith}
 use Rattle.rules.proofs.Sizes.{size_within}
 use Rattle.rules.proofs.rule.size_for.Goals as goal
 
-pub overflow-add-result : goal.overflow-add-result
-overflow-add-result c =
+pub overflow_add-result : goal.overflow_add-result
+overflow_add-result c =
     let ns = c.args.nodes.now in
     omega (arith, size_within ns c.requires.fitting (length ns - 1) (omega arith))

@@ -1,5 +1,5 @@
 -- The node that is added fits.
-use Rattle.std.proofs.Common.{◌≡◌, ℕ, List, [], ◌∷◌, ◌++◌, Some, vec_items, sym, refl, ap, ◌∙◌, subst, arith, rules}
+use Rattle.std.proofs.Common.{◌≡◌, ℕ, List, [], ◌∷◌, ◌++◌, Some, vec_items, sym, refl, ap, ◌∙◌, subst, arith}
 use Rattle.rules.specs.declared.node.Node.{Node}
 use Rattle.rules.specs.declared.record.Record.{Record}
 use Rattle.rules.specs.Nodes.{node, Fitting, TestsFit}
@@ -11,8 +11,11 @@ use Rattle.rules.proofs.rule.Draft.add.Goals as goal
 told : (ms ns : List Node) (r : Record) (n : Node) → ms ≡ ns → NodeOf ms r (Some n) → NodeOf ns r (Some n)
 told ms ns r n e t = subst (λ (xs : List Node). NodeOf xs r (Some n)) e t
 
-pub invariant-of-self : goal.invariant-of-self
-invariant-of-self c = (subst Fitting (sym c.push-reserved.ensures.items) (pushed_fits (vec_items c.args.self.now.nodes) c.in-Some.node.shape c.in-Some.node.size c.args.self.now.fitting (sym (told _ _ c.args.given c.in-Some.node c.deref.ensures.value c.in-Some.ensures).1)), (subst TestsFit (sym c.push-reserved.ensures.items) (pushed_tests (vec_items c.args.self.now.nodes) c.in-Some.node.shape c.in-Some.node.size c.args.self.now.tests (let t = c.in-Some.ensures.0 in omega arith)), (search rules, (search rules, tt))))
+pub invariant_of-self-clause-fitting : goal.invariant_of-self-clause-fitting
+invariant_of-self-clause-fitting c = subst Fitting (sym c.push_reserved.ensures.items) (pushed_fits (vec_items c.args.self.now.nodes) c.in-Some.node.shape c.in-Some.node.size c.args.self.now.fitting (sym (told _ _ c.args.given c.in-Some.node c.deref.ensures.value c.in-Some.ensures).1))
+
+pub invariant_of-self-clause-tests : goal.invariant_of-self-clause-tests
+invariant_of-self-clause-tests c = subst TestsFit (sym c.push_reserved.ensures.items) (pushed_tests (vec_items c.args.self.now.nodes) c.in-Some.node.shape c.in-Some.node.size c.args.self.now.tests (let t = c.in-Some.ensures.0 in omega arith))
 
 pub returns : goal.returns
 returns c =
