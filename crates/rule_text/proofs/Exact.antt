@@ -1,13 +1,12 @@
 -- No text is both taken and refused, and a text is refused in one way.
-use Rattle.std.proofs.Common.{◌≡◌, ℕ, suc, ◌+◌, ◌-◌, ◌<◌, ◌≤◌, ◌⊎◌, List, [], ◌∷◌, ◌++◌, length, Some, None, Ok, Err, Option, Result, sym, refl, ap, ◌∙◌, subst, ap₂, inl, inr, ⊎_elim, append_assoc, append-nil, arith}
+use Rattle.std.proofs.Common.{◌≡◌, ℕ, suc, ◌-◌, ◌<◌, ◌⊎◌, List, [], ◌∷◌, ◌++◌, length, Some, None, Ok, Err, Option, Result, sym, refl, ap, ◌∙◌, subst, ap₂, inl, inr, ⊎_elim, append_assoc, append-nil, arith}
 use Rattle.refusals.specs.declared.Fault.{Fault}
 use Rattle.refusals.specs.declared.Refusal.{Refusal}
 use Rattle.refusals.specs.declared.Refusal.TheVariants.{BadNames, Misplaced}
 use Rattle.rules.specs.declared.node.Node.{Node}
 use Rattle.rule_text.specs.Words.{Word, name, nil, void, open', close', bar, star, bang, no_name, stray, words_in}
-use Rattle.rule_text.specs.Names.{test_named, GoodNames}
 use Rattle.rule_text.specs.Grammar.{Level, choice, Naming, Gives, named, opposite, is_nil, is_void, brackets, plain, starred, single, longer, alone, wider}
-use Rattle.rule_text.specs.Faults.{fault, by_list, by_any_name, Begins, IsRule, Allowed, opened, own_fault, WordFault, spoilt, misplaced, deeper, unknown, FaultHere, FirstFault}
+use Rattle.rule_text.specs.Faults.{fault, by_list, by_any_name, Begins, IsRule, opened, own_fault, WordFault, spoilt, misplaced, deeper, unknown, FaultHere, FirstFault}
 use Rattle.rule_text.specs.Reading.{Taken, Refused, bad_names, long, faulty, many, Exact, OneRefusal, Reads, Reading}
 use Rattle.rule_text.proofs.Entries.{not_both, one_place}
 use Rattle.rule_text.proofs.Failing.{widen, wide_any}

@@ -1,8 +1,8 @@
 -- How a fault of a part is a fault of the whole.
-use Rattle.std.proofs.Common.{◌≡◌, ℕ, zero, suc, ◌+◌, ◌<◌, ◌≤◌, Bool, ◌⊎◌, List, [], ◌∷◌, ◌++◌, length, Some, None, Option, sym, refl, ap, ◌∙◌, subst, inl, inr, append_assoc, append-nil, arith, Bor}
+use Rattle.std.proofs.Common.{◌≡◌, ℕ, suc, ◌+◌, ◌<◌, ◌≤◌, ◌⊎◌, List, [], ◌∷◌, ◌++◌, length, Some, None, sym, refl, ap, ◌∙◌, subst, inl, inr, append_assoc, append-nil, arith, Bor}
 use Rattle.refusals.specs.declared.Fault.{Fault}
 use Rattle.refusals.specs.declared.Refusal.{Refusal}
-use Rattle.refusals.specs.declared.Refusal.TheVariants.{StrayByte, NotAName, Misplaced, TooDeep, UnknownName}
+use Rattle.refusals.specs.declared.Refusal.TheVariants.{Misplaced, TooDeep, UnknownName}
 use Rattle.rules.specs.declared.node.Join.TheVariants.{Chain, Choice}
 use Rattle.rules.specs.declared.node.Node.{Node}
 use Rattle.rules.specs.declared.node.Shape.TheVariants.{Nil as NilShape, Leaf, Join}
@@ -13,8 +13,8 @@ use Rattle.rule_text.specs.Words.{Word, name, nil, void, open', close', bar, sta
 use Rattle.rule_text.specs.Names.{test_named}
 use Rattle.rule_text.specs.Grammar.{Level, choice, chain, item, atom, Gives, Naming, named, opposite, is_nil, is_void, brackets, plain, starred, single, longer, alone, wider, under}
 use Rattle.rule_text.specs.Faults.{fault, by_list, by_any_name, Begins, own_fault}
-use Rattle.rule_text.specs.Lexing.{words_of, Starts, Spoilt}
-use Rattle.rule_text.specs.Readers.{Mode, wants, has, turns, Ready, step, scan, Faulty, own, barred, deep, strange, FaultAt, Unfinished, GoesOn, IsAllowed, Fails, Done, Follows}
+use Rattle.rule_text.specs.Lexing.{Starts, Spoilt}
+use Rattle.rule_text.specs.Readers.{Mode, wants, has, turns, step, scan, Faulty, own, barred, deep, strange, FaultAt, GoesOn, IsAllowed, Fails, Follows}
 use Rattle.rule_text.proofs.Scanning.{scan_append, gives_scan, un_some}
 
 -- a naming that knows the names of the list, and lets brackets stand as deep

@@ -1,5 +1,5 @@
 -- The fault that a reader meets is the first fault of the text.
-use Rattle.std.proofs.Common.{◌≡◌, ℕ, ◌+◌, ◌-◌, ◌<◌, ◌≤◌, Bool, true, false, ◌⊎◌, List, [], ◌∷◌, ◌++◌, length, Some, sym, refl, ap, ◌∙◌, subst, inl, inr, append-nil, arith}
+use Rattle.std.proofs.Common.{◌≡◌, ℕ, ◌-◌, ◌<◌, ◌≤◌, Bool, true, false, List, [], ◌∷◌, ◌++◌, length, Some, sym, refl, ap, ◌∙◌, subst, inl, inr, append-nil, arith}
 use Rattle.std.proofs.lemmas.Bool.{both_ways}
 use Rattle.refusals.specs.declared.Fault.{Fault}
 use Rattle.refusals.specs.declared.Refusal.{Refusal}
@@ -7,8 +7,8 @@ use Rattle.rules.specs.declared.node.Node.{Node}
 use Rattle.rule_text.specs.declared.words.Placed.{Placed}
 use Rattle.rule_text.specs.declared.words.Word.TheVariants.{End}
 use Rattle.rule_text.specs.Words.{Word, words, words_in}
-use Rattle.rule_text.specs.Grammar.{choice, Gives}
-use Rattle.rule_text.specs.Faults.{by_list, IsRule, own_fault, WordFault, spoilt, misplaced, deeper, unknown, FaultHere, FirstFault}
+use Rattle.rule_text.specs.Grammar.{choice}
+use Rattle.rule_text.specs.Faults.{IsRule, WordFault, spoilt, misplaced, deeper, unknown, FaultHere, FirstFault}
 use Rattle.rule_text.specs.Lexing.{words_of, Starts}
 use Rattle.rule_text.specs.Names.{GoodNames}
 use Rattle.rule_text.specs.Reading.{Refused, faulty, many}

@@ -1,9 +1,9 @@
 -- What the first byte, or the first run, of a text leaves of its words.
-use Rattle.std.proofs.Common.{◌≡◌, ℕ, zero, suc, ◌+◌, ◌-◌, ◌<◌, ◌≤◌, Bool, true, false, cond, ◌&&◌, ◌||◌, eqb, leb, List, [], ◌∷◌, ◌++◌, length, get_or, take, drop, Some, sym, refl, ap, ◌∙◌, ⊎_elim, arith, length-drop, length-take}
+use Rattle.std.proofs.Common.{◌≡◌, ℕ, zero, suc, ◌+◌, ◌-◌, ◌<◌, ◌≤◌, true, false, List, [], ◌∷◌, length, get_or, take, drop, Some, sym, refl, ap, ◌∙◌, ⊎_elim, arith, length-drop, length-take}
 use lib.Seq.{take-length}
 use Rattle.std.proofs.lemmas.Bool.Decides.{nat_tests}
 use Rattle.std.proofs.lemmas.Bool.{cond-true, cond-false, cases_Bool}
-use Rattle.rule_text.specs.Words.{Word, name, run_word, mark, in_run, blank, letter, front, words}
+use Rattle.rule_text.specs.Words.{Word, name, run_word, mark, in_run, blank, front, words}
 use Rattle.rule_text.specs.Lexing.{words_of, Starts, Shorter, IsRunWord}
 use Rattle.rule_text.specs.declared.words.Word.{Word as Token}
 use Rattle.rule_text.specs.declared.words.Word.TheVariants.{Name, Nil, Void, Open, Close, Bar, Star, Bang, End}

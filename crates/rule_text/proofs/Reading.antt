@@ -1,5 +1,5 @@
 -- What each turn of the readers adds.
-use Rattle.std.proofs.Common.{◌≡◌, ℕ, suc, ◌+◌, ◌<◌, ◌≤◌, Bool, List, [], ◌∷◌, ◌++◌, length, Some, sym, refl, ap, ◌∙◌, subst, append_assoc, arith}
+use Rattle.std.proofs.Common.{◌≡◌, ℕ, suc, ◌+◌, ◌<◌, Bool, List, [], ◌∷◌, ◌++◌, length, Some, sym, refl, ap, ◌∙◌, subst, append_assoc, arith}
 use Rattle.rules.specs.declared.node.Join.TheVariants.{Chain, Choice}
 use Rattle.rules.specs.declared.node.Node.{Node}
 use Rattle.rules.specs.declared.node.Shape.TheVariants.{Void as VoidShape, Nil as NilShape, Leaf, Join, Repeat}
@@ -11,7 +11,7 @@ use Rattle.rule_text.specs.Names.{test_named}
 use Rattle.rule_text.specs.Grammar.{Level, choice, chain, item, atom, Gives, named, opposite, is_nil, is_void, brackets, plain, starred, single, longer, alone, wider, under}
 use Rattle.rule_text.specs.Faults.{by_list}
 use Rattle.rule_text.specs.Lexing.{words_of, Starts}
-use Rattle.rule_text.specs.Readers.{Done, Adds, Pushed, Joined, Follows, tight, loose, NameRead}
+use Rattle.rule_text.specs.Readers.{Done, Adds, Pushed, Joined, Follows, NameRead}
 use Rattle.rule_text.proofs.Drafting.{gives_rooted, adds_one, adds_repeat, adds_join}
 
 any_follows : (ws : List (ℕ × Word)) → Follows atom ws

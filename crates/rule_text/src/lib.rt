@@ -1,5 +1,6 @@
 // Rule texts: reading one into a rule.
 #![tactic(auto)]
+
 ghost use Rattle.std.specs.Prelude.{◌≡◌, ◌<◌, ◌≤◌, false, [], length, MatchResult};
 ghost use Rattle.refusals.specs.declared.Refusal.TheVariants.{TextTooLong};
 ghost use Rattle.rule_text.specs.Faults.{fault};

@@ -81,7 +81,7 @@ fn opposite<'a>(
 }
 
 // A choice: one chain, then any number of `|` and a chain.
-#[cycle(atom_chain_choice_further_chain_further_item_item)]
+#[cycle(readers)]
 pub(crate) fn choice<'a>(
     names: &[Entry],
     whole: usize,
@@ -105,7 +105,7 @@ pub(crate) fn choice<'a>(
 }
 
 // A chain that a choice goes on with: the choice of what was read before and of this chain.
-#[cycle(atom_chain_choice_further_chain_further_item_item)]
+#[cycle(readers)]
 fn further_chain<'a>(
     names: &[Entry],
     whole: usize,
@@ -124,7 +124,7 @@ fn further_chain<'a>(
 }
 
 // A chain: one or more items.
-#[cycle(atom_chain_choice_further_chain_further_item_item)]
+#[cycle(readers)]
 fn chain<'a>(
     names: &[Entry],
     whole: usize,
@@ -148,7 +148,7 @@ fn chain<'a>(
 }
 
 // An item that a chain goes on with: the chain of what was read before and then of this item.
-#[cycle(atom_chain_choice_further_chain_further_item_item)]
+#[cycle(readers)]
 fn further_item<'a>(
     names: &[Entry],
     whole: usize,
@@ -167,7 +167,7 @@ fn further_item<'a>(
 }
 
 // An item: an atom, then any number of `*`.
-#[cycle(atom_chain_choice_further_chain_further_item_item)]
+#[cycle(readers)]
 fn item<'a>(
     names: &[Entry],
     whole: usize,
@@ -192,7 +192,7 @@ fn item<'a>(
 }
 
 // An atom: a name, `!` and a name, `nil`, `void`, or a choice in brackets.
-#[cycle(atom_chain_choice_further_chain_further_item_item)]
+#[cycle(readers)]
 fn atom<'a>(
     names: &[Entry],
     whole: usize,

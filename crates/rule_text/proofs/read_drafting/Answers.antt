@@ -18,47 +18,47 @@ use Rattle.rule_text.proofs.read_drafting.Goals as goal
 bad_names_lem : {names : List (List ℕ)} {text : List ℕ} (f : Fault) → f.refusal ≡ BadNames → NamesFault names f.place → Refused names text f
 bad_names_lem {names} {text} f e h = subst (Refused names text) (ap (λ x. fault x f.place) (sym e)) (bad_names h)
 
-pub returns-in-err-check-names : goal.returns-in-err-check-names
-returns-in-err-check-names c =
-    let p = err_from_is_err_and c.from-residual.result c.from-residual.ensures.1 in
-    let e = c.in-err-check-names.ensures in
+pub returns-in_err-check_names : goal.returns-in_err-check_names
+returns-in_err-check_names c =
+    let p = err_from_is_err_and c.from_residual.result c.from_residual.ensures.1 in
+    let e = c.in_err-check_names.ensures in
     rw (p.1, p.2) (refl, bad_names_lem _ e.0 e.1)
 
-pub returns-in-err-check-length : goal.returns-in-err-check-length
-returns-in-err-check-length c =
-    let p = err_from_is_err_and c.from-residual-in-err-check-length.result c.from-residual-in-err-check-length.ensures.1 in
-    let e = c.in-err-check-length.ensures in
-    rw (p.1, p.2) (refl, subst (Refused c.args.names.now c.args.text.now) (sym e.1) (long c.in-ok-check-names.ensures e.0))
+pub returns-in_err-check_length : goal.returns-in_err-check_length
+returns-in_err-check_length c =
+    let p = err_from_is_err_and c.from_residual-in_err-check_length.result c.from_residual-in_err-check_length.ensures.1 in
+    let e = c.in_err-check_length.ensures in
+    rw (p.1, p.2) (refl, subst (Refused c.args.names.now c.args.text.now) (sym e.1) (long c.in_ok-check_names.ensures e.0))
 
-pub returns-in-err-rest : goal.returns-in-err-rest
-returns-in-err-rest c =
-    let p = err_from_is_err_and c.from-residual-in-err-rest.result c.from-residual-in-err-rest.ensures.1 in
-    rw (p.1, p.2) (refl, faulty c.in-ok-check-names.ensures c.in-ok-check-length.ensures (first_fault c.args.text.now c.in-err-rest.ensures))
+pub returns-in_err-rest : goal.returns-in_err-rest
+returns-in_err-rest c =
+    let p = err_from_is_err_and c.from_residual-in_err-rest.result c.from_residual-in_err-rest.ensures.1 in
+    rw (p.1, p.2) (refl, faulty c.in_ok-check_names.ensures c.in_ok-check_length.ensures (first_fault c.args.text.now c.in_err-rest.ensures))
 
-pub returns-in-err-last : goal.returns-in-err-last
-returns-in-err-last c =
-    let p = err_from_is_err_and c.from-residual-in-err-last.result c.from-residual-in-err-last.ensures.1 in
-    let k = c.in-ok-rest.ensures in
-    rw (p.1, p.2) (refl, faulty c.in-ok-check-names.ensures c.in-ok-check-length.ensures (first_fault c.args.text.now (spoilt_next k.gives k.split c.in-err-last.ensures)))
+pub returns-in_err-last : goal.returns-in_err-last
+returns-in_err-last c =
+    let p = err_from_is_err_and c.from_residual-in_err-last.result c.from_residual-in_err-last.ensures.1 in
+    let k = c.in_ok-rest.ensures in
+    rw (p.1, p.2) (refl, faulty c.in_ok-check_names.ensures c.in_ok-check_length.ensures (first_fault c.args.text.now (spoilt_next k.gives k.split c.in_err-last.ensures)))
 
-pub returns-in-err-check-end : goal.returns-in-err-check-end
-returns-in-err-check-end c =
-    let p = err_from_is_err_and c.from-residual-in-err-check-end.result c.from-residual-in-err-check-end.ensures.1 in
-    let k = c.in-ok-rest.ensures in
+pub returns-in_err-check_end : goal.returns-in_err-check_end
+returns-in_err-check_end c =
+    let p = err_from_is_err_and c.from_residual-in_err-check_end.result c.from_residual-in_err-check_end.ensures.1 in
+    let k = c.in_ok-rest.ensures in
     let h = k.adds [] (inl (omega arith, c.clear.ensures.items, c.clear.ensures.over)) in
-    rw (p.1, p.2) (refl, end_refused c.args.text.now c.in-ok-rest.rest.now c.in-ok-last.last _ c.in-ok-check-names.ensures c.in-ok-check-length.ensures k h c.in-ok-last.ensures.0 _ c.in-err-check-end.ensures)
+    rw (p.1, p.2) (refl, end_refused c.args.text.now c.in_ok-rest.rest.now c.in_ok-last.last _ c.in_ok-check_names.ensures c.in_ok-check_length.ensures k h c.in_ok-last.ensures.0 _ c.in_err-check_end.ensures)
 
 pub returns : goal.returns
 returns c =
     let text = c.args.text.now in
-    let k = c.in-ok-rest.ensures in
+    let k = c.in_ok-rest.ensures in
     let h = k.adds [] (inl (omega arith, c.clear.ensures.items, c.clear.ensures.over)) in
-    let e = c.in-ok-check-end.ensures in
+    let e = c.in_ok-check_end.ensures in
     let n = not_over h e.1 in
     let is = c.adopt.ensures.nodes ∙ cond-true _ _ _ (c.adopt.ensures.whether.1 (e.1, subst Rooted (sym n.1) (gives_rooted k.gives))) ∙ n.1 in
     record {
-      good = c.in-ok-check-names.ensures;
-      short = c.in-ok-check-length.ensures;
-      gives = subst (IsRule c.args.names.now (words_in text)) (sym is) (ends_rule text c.in-ok-rest.rest.now c.in-ok-last.last _ c.in-ok-check-names.ensures c.in-ok-check-length.ensures k h c.in-ok-last.ensures.0 e.0);
+      good = c.in_ok-check_names.ensures;
+      short = c.in_ok-check_length.ensures;
+      gives = subst (IsRule c.args.names.now (words_in text)) (sym is) (ends_rule text c.in_ok-rest.rest.now c.in_ok-last.last _ c.in_ok-check_names.ensures c.in_ok-check_length.ensures k h c.in_ok-last.ensures.0 e.0);
       few = subst (λ (ns : List Node). length ns ≤ 512) (sym is) n.0;
     }

@@ -10,7 +10,7 @@ loop-p-init c =
     let next : ℕ → ℕ = λ q. get_or c.args.next.now q 0 in
     let short : ℕ → Option ℕ = λ q. get_or c.args.short.now q None in
     subst (λ n. AddedFrom ns next short (set c.args.far.now n (Some 0)) n) (sym (ap length c.nodes-count.ensures))
-    (end_added ns c.args.rule.now.formed next c.requires.next.1 short c.requires.low c.args.far.now c.requires.far-len)
+    (end_added ns c.args.rule.now.formed next c.requires.next.1 short c.requires.low c.args.far.now c.requires.far_len)
 
 pub slice-copy-out·add : goal.slice-copy-out·add
 slice-copy-out·add c =
@@ -21,7 +21,7 @@ pub add-requires : goal.add-requires
 add-requires c =
     let count = ap length c.nodes-count.ensures in
     let k = both_low (vec_items c.args.rule.now.nodes) c.args.rule.now.formed (λ q. get_or c.args.next.now q 0) c.requires.next.1 (λ q. get_or c.args.short.now q None) c.requires.low c.loop-p.p c.loop-p.far (omega arith) (omega arith) c.loop-p.invariant in
-    record { a-low = k.0; b-low = k.1 }
+    record { a_low = k.0; b_low = k.1 }
 
 pub loop-p-preserved : goal.loop-p-preserved
 loop-p-preserved c =

@@ -12,14 +12,14 @@ pub loop-p-preserved : goal.loop-p-preserved
 loop-p-preserved c =
     let ns = vec_items c.args.rule.now.nodes in
     let old = vec_items c.loop-p.short in
-    let own = c.short-at-own.result in
+    let own = c.short_at-own.result in
     let at : length old ≡ c.loop-p.p = omega arith in
     let read = c.deref.ensures.value in
-    let value : own ≡ short_of (λ t. get_or c.args.possible.now t false) (form_at ns (length old)) (λ q. get_or old q None) = rw (at, ← read) c.short-at-own.ensures.value in (
+    let value : own ≡ short_of (λ t. get_or c.args.possible.now t false) (form_at ns (length old)) (λ q. get_or old q None) = rw (at, ← read) c.short_at-own.ensures.value in (
       omega arith,
       omega arith,
-      λ k h. short_more ns c.args.rule.now.formed (λ t. get_or c.args.possible.now t false) old (vec_items c.push-reserved.new.self) own c.push-reserved.ensures.items (λ k h. c.loop-p.invariant.2 k (omega arith)) value k (omega arith),
-      λ k h. pushed_each (λ k x. AtMost (size_at ns k) x) old (vec_items c.push-reserved.new.self) own None c.push-reserved.ensures.items (λ k h. c.loop-p.invariant.3 k (omega arith)) (rw at c.short-at-own.ensures.low) k (omega arith),
+      λ k h. short_more ns c.args.rule.now.formed (λ t. get_or c.args.possible.now t false) old (vec_items c.push_reserved.new.self) own c.push_reserved.ensures.items (λ k h. c.loop-p.invariant.2 k (omega arith)) value k (omega arith),
+      λ k h. pushed_each (λ k x. AtMost (size_at ns k) x) old (vec_items c.push_reserved.new.self) own None c.push_reserved.ensures.items (λ k h. c.loop-p.invariant.3 k (omega arith)) (rw at c.short_at-own.ensures.low) k (omega arith),
     )
 
 pub returns : goal.returns

@@ -11,4 +11,4 @@ loop-p-init c =
 pub loop-p-preserved : goal.loop-p-preserved
 loop-p-preserved c =
     let count = ap length c.nodes-count.ensures in
-    set_more (vec_items c.args.rule.now.nodes) c.args.rule.now.formed c.loop-p.p c.loop-p.next c.hand-down.new.next (omega arith) (omega arith) c.hand-down.ensures c.loop-p.invariant
+    set_more (vec_items c.args.rule.now.nodes) c.args.rule.now.formed c.loop-p.p c.loop-p.next c.hand_down.new.next (omega arith) (omega arith) c.hand_down.ensures c.loop-p.invariant

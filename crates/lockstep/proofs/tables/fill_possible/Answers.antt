@@ -19,7 +19,7 @@ loop-t-preserved g c =
     let n : length (vec_items old) ≡ c.loop-t.t = omega arith in (
       omega arith,
       omega arith,
-      λ k h. pushed_each (λ k b. b ≡ g.K.Kind.can_meet c.args.kind.now k) (vec_items old) (vec_items c.push-reserved.new.self) c.possible.result false c.push-reserved.ensures.items
+      λ k h. pushed_each (λ k b. b ≡ g.K.Kind.can_meet c.args.kind.now k) (vec_items old) (vec_items c.push_reserved.new.self) c.possible.result false c.push_reserved.ensures.items
           (λ k h. c.loop-t.invariant.2 k (omega arith))
           (c.possible.ensures ∙ ap (g.K.Kind.can_meet c.args.kind.now) (sym n))
           k (omega arith),

@@ -1,5 +1,5 @@
 -- The name in an entry is the only one that can be judged.
-use Rattle.std.proofs.Common.{◌≡◌, ℕ, false, List, [], length, get_or, codes, sym, ap, ◌∙◌, subst, arith}
+use Rattle.std.proofs.Common.{◌≡◌, ℕ, false, List, [], length, get_or, codes, sym, ◌∙◌, subst, arith}
 use Rattle.std.proofs.lemmas.Slice.Eq.{bytes_eq-Decides}
 use Rattle.rule_text.specs.Names.{Fills, is_entry}
 use Rattle.rule_text.proofs.Entries.{fills_run, new_from, new_none}
@@ -30,9 +30,9 @@ returns-in-Some-2 c =
         own = x;
         fills = fills;
         first = λ z. absurd (c.if-i-eq0.false z);
-        new = new_from names x c.args.i (omega (arith, c.requires)) (c.is-new.ensures.0 r);
+        new = new_from names x c.args.i (omega (arith, c.requires)) (c.is_new.ensures.0 r);
       }),
       (λ g.
           let same = only _ g.own x (c.told-names c.args.i c.requires) g.fills fills in
-          c.is-new.ensures.1 (new_none names x c.args.i (omega (arith, c.requires)) (λ j h. subst (λ (y : List ℕ). is_entry (get_or names j []) y ≡ false) same (g.new j h)))),
+          c.is_new.ensures.1 (new_none names x c.args.i (omega (arith, c.requires)) (λ j h. subst (λ (y : List ℕ). is_entry (get_or names j []) y ≡ false) same (g.new j h)))),
     )

@@ -3,8 +3,8 @@ use Rattle.std.proofs.Common.{length, sym, ◌∙◌, arith, rules}
 use Rattle.rule_text.proofs.Lexing.{front_is}
 use Rattle.rule_text.proofs.words.run_len.Goals as goal
 
-pub returns-then-not-in-run : goal.returns-then-not-in-run
-returns-then-not-in-run c = record { within = search rules; run = front_is _ _ (search rules) c.loop-i.invariant (λ lt. sym c.in-run.ensures ∙ c.if-not-in-run.true) }
+pub returns-then-not-in_run : goal.returns-then-not-in_run
+returns-then-not-in_run c = record { within = search rules; run = front_is _ _ (search rules) c.loop-i.invariant (λ lt. sym c.in_run.ensures ∙ c.if-not-in_run.true) }
 
 pub returns : goal.returns
 returns c =

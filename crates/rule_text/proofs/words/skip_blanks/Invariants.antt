@@ -1,4 +1,4 @@
-use Rattle.std.proofs.Common.{◌≡◌, ℕ, ◌≤◌, length}
+use Rattle.std.proofs.Common.{◌≡◌, ◌≤◌, length}
 use Rattle.rule_text.specs.Lexing.{words_of}
 use Rattle.rule_text.proofs.words.skip_blanks.Given as goal
 

@@ -4,8 +4,8 @@ use Rattle.rules.proofs.Spans.{spans, join_facts, repeat_facts}
 use Rattle.rule_writing.proofs.Extents.{between_short, small, measured_void, measured_nil, measured_leaf, measured_repeat, measured_join}
 use Rattle.rule_writing.proofs.writer.+measure.Goals as goal
 
-pub overflow-add-result-in-Repeat : goal.overflow-add-result-in-Repeat
-overflow-add-result-in-Repeat t c =
+pub overflow_add-result-in-Repeat : goal.overflow_add-result-in-Repeat
+overflow_add-result-in-Repeat t c =
     let ns = vec_items c.args.rule.now.nodes in
     let f = repeat_facts (spans ns c.args.rule.now.formed) c.args.p c.in-Repeat.child (sym c.in-Repeat.ensures) in
     omega (arith, small c.args.names.now ns c.args.rule.now.formed _ c.in-Repeat.child _ _ (omega arith) c.measure-inner.ensures)
@@ -21,7 +21,7 @@ joined-requires t c =
     let f = join_facts (spans ns c.args.rule.now.formed) c.args.p c.in-Join.left c.in-Join.right c.in-Join.join (sym c.in-Join.ensures) in
     let l = small c.args.names.now ns c.args.rule.now.formed _ c.in-Join.left _ _ (omega arith) c.measure.ensures in
     let r = small c.args.names.now ns c.args.rule.now.formed _ c.in-Join.right _ _ (omega arith) c.measure-in-Join.ensures in
-    record { left_low = omega arith; right_low = omega arith; gap-low = omega (arith, ap length c.between.ensures, between_short c.in-Join.join); left-flat = omega arith; right-flat = omega arith }
+    record { left_low = omega arith; right_low = omega arith; gap_low = omega (arith, ap length c.between.ensures, between_short c.in-Join.join); left_flat = omega arith; right_flat = omega arith }
 
 pub returns-in-Void : goal.returns-in-Void
 returns-in-Void t c = measured_void c.args.names.now (vec_items c.args.rule.now.nodes) c.args.rule.now.formed c.args.place c.args.p c.requires.within (sym c.in-Void.ensures)
@@ -30,7 +30,7 @@ pub returns-in-Nil : goal.returns-in-Nil
 returns-in-Nil t c = measured_nil c.args.names.now (vec_items c.args.rule.now.nodes) c.args.rule.now.formed c.args.place c.args.p c.requires.within (sym c.in-Nil.ensures)
 
 pub returns-in-Leaf : goal.returns-in-Leaf
-returns-in-Leaf t c = measured_leaf c.args.names.now (vec_items c.args.rule.now.nodes) c.args.rule.now.formed c.args.place c.args.p c.requires.within c.in-Leaf.test _ _ (sym c.in-Leaf.ensures) c.leaf-parts.ensures.text c.leaf-parts.ensures.mark c.leaf-parts.ensures.name
+returns-in-Leaf t c = measured_leaf c.args.names.now (vec_items c.args.rule.now.nodes) c.args.rule.now.formed c.args.place c.args.p c.requires.within c.in-Leaf.test _ _ (sym c.in-Leaf.ensures) c.leaf_parts.ensures.text c.leaf_parts.ensures.mark c.leaf_parts.ensures.name
 
 pub returns-in-Repeat : goal.returns-in-Repeat
 returns-in-Repeat t c = measured_repeat c.args.names.now (vec_items c.args.rule.now.nodes) c.args.rule.now.formed c.args.place c.args.p c.requires.within c.in-Repeat.child _ _ (sym c.in-Repeat.ensures) c.measure-inner.ensures
@@ -38,4 +38,4 @@ returns-in-Repeat t c = measured_repeat c.args.names.now (vec_items c.args.rule.
 pub returns-in-Join : goal.returns-in-Join
 returns-in-Join t c =
     measured_join c.args.names.now (vec_items c.args.rule.now.nodes) c.args.rule.now.formed c.args.place c.args.p c.requires.within
-    c.in-Join.join c.in-Join.left c.in-Join.right _ _ _ _ _ _ _ _ (sym c.in-Join.ensures) c.measure.ensures c.measure-in-Join.ensures c.between.ensures c.needs-brackets.ensures c.joined.ensures.length c.joined.ensures.depth
+    c.in-Join.join c.in-Join.left c.in-Join.right _ _ _ _ _ _ _ _ (sym c.in-Join.ensures) c.measure.ensures c.measure-in-Join.ensures c.between.ensures c.needs_brackets.ensures c.joined.ensures.length c.joined.ensures.depth

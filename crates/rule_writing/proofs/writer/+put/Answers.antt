@@ -13,21 +13,21 @@ use Rattle.rule_writing.proofs.Positions.{text_as}
 use Rattle.rule_writing.proofs.Putting.{put_then, put_as, put_join, join_text, join_long}
 use Rattle.rule_writing.proofs.writer.+put.Goals as goal
 
-pub put-bytes-requires : goal.put-bytes-requires
-put-bytes-requires t c = omega (arith, c.requires.room, ap length (text_as c.args.names.now (vec_items c.args.rule.now.nodes) c.args.rule.now.formed c.args.place c.args.p Void (sym c.in-Void.ensures)))
+pub put_bytes-requires : goal.put_bytes-requires
+put_bytes-requires t c = omega (arith, c.requires.room, ap length (text_as c.args.names.now (vec_items c.args.rule.now.nodes) c.args.rule.now.formed c.args.place c.args.p Void (sym c.in-Void.ensures)))
 
-pub put-bytes-requires-in-Nil : goal.put-bytes-requires-in-Nil
-put-bytes-requires-in-Nil t c = omega (arith, c.requires.room, ap length (text_as c.args.names.now (vec_items c.args.rule.now.nodes) c.args.rule.now.formed c.args.place c.args.p Nil (sym c.in-Nil.ensures)))
+pub put_bytes-requires-in-Nil : goal.put_bytes-requires-in-Nil
+put_bytes-requires-in-Nil t c = omega (arith, c.requires.room, ap length (text_as c.args.names.now (vec_items c.args.rule.now.nodes) c.args.rule.now.formed c.args.place c.args.p Nil (sym c.in-Nil.ensures)))
 
-pub put-bytes-marked-requires : goal.put-bytes-marked-requires
-put-bytes-marked-requires t c =
-    let is = c.leaf-parts.ensures.text ∙ sym (text_as c.args.names.now (vec_items c.args.rule.now.nodes) c.args.rule.now.formed c.args.place c.args.p (Leaf c.in-Leaf.test) (sym c.in-Leaf.ensures)) in
-    omega (arith, c.requires.room, ap length is, length-append c.leaf-parts.result.0.now c.leaf-parts.result.1.now)
+pub put_bytes-marked-requires : goal.put_bytes-marked-requires
+put_bytes-marked-requires t c =
+    let is = c.leaf_parts.ensures.text ∙ sym (text_as c.args.names.now (vec_items c.args.rule.now.nodes) c.args.rule.now.formed c.args.place c.args.p (Leaf c.in-Leaf.test) (sym c.in-Leaf.ensures)) in
+    omega (arith, c.requires.room, ap length is, length-append c.leaf_parts.result.0.now c.leaf_parts.result.1.now)
 
-pub put-bytes-requires-in-Leaf : goal.put-bytes-requires-in-Leaf
-put-bytes-requires-in-Leaf t c =
-    let is = c.leaf-parts.ensures.text ∙ sym (text_as c.args.names.now (vec_items c.args.rule.now.nodes) c.args.rule.now.formed c.args.place c.args.p (Leaf c.in-Leaf.test) (sym c.in-Leaf.ensures)) in
-    omega (arith, c.requires.room, ap length is, length-append c.leaf-parts.result.0.now c.leaf-parts.result.1.now, c.put-bytes-marked.ensures.ends, c.put-bytes-marked.auto.memory)
+pub put_bytes-requires-in-Leaf : goal.put_bytes-requires-in-Leaf
+put_bytes-requires-in-Leaf t c =
+    let is = c.leaf_parts.ensures.text ∙ sym (text_as c.args.names.now (vec_items c.args.rule.now.nodes) c.args.rule.now.formed c.args.place c.args.p (Leaf c.in-Leaf.test) (sym c.in-Leaf.ensures)) in
+    omega (arith, c.requires.room, ap length is, length-append c.leaf_parts.result.0.now c.leaf_parts.result.1.now, c.put_bytes-marked.ensures.ends, c.put_bytes-marked.auto.memory)
 
 pub put-inner-requires : goal.put-inner-requires
 put-inner-requires t c =
@@ -36,27 +36,27 @@ put-inner-requires t c =
     let is = text_as c.args.names.now ns c.args.rule.now.formed c.args.place c.args.p (Repeat c.in-Repeat.child) (sym c.in-Repeat.ensures) in
     (omega arith, (omega arith, (c.requires.named, omega (arith, c.requires.room, ap length is, length-append (text_at c.args.names.now ns Repeated c.in-Repeat.child) (codes "*")))))
 
-pub put-bytes-requires-in-Repeat : goal.put-bytes-requires-in-Repeat
-put-bytes-requires-in-Repeat t c =
+pub put_bytes-requires-in-Repeat : goal.put_bytes-requires-in-Repeat
+put_bytes-requires-in-Repeat t c =
     let ns = vec_items c.args.rule.now.nodes in
     let is = text_as c.args.names.now ns c.args.rule.now.formed c.args.place c.args.p (Repeat c.in-Repeat.child) (sym c.in-Repeat.ensures) in
     omega (arith, c.requires.room, ap length is, length-append (text_at c.args.names.now ns Repeated c.in-Repeat.child) (codes "*"), c.put-inner.ensures.ends, c.put-inner.auto.memory)
 
 pub returns-in-Void : goal.returns-in-Void
-returns-in-Void t c = put_as (sym (text_as c.args.names.now (vec_items c.args.rule.now.nodes) c.args.rule.now.formed c.args.place c.args.p Void (sym c.in-Void.ensures))) c.put-bytes.ensures
+returns-in-Void t c = put_as (sym (text_as c.args.names.now (vec_items c.args.rule.now.nodes) c.args.rule.now.formed c.args.place c.args.p Void (sym c.in-Void.ensures))) c.put_bytes.ensures
 
 pub returns-in-Nil : goal.returns-in-Nil
-returns-in-Nil t c = put_as (sym (text_as c.args.names.now (vec_items c.args.rule.now.nodes) c.args.rule.now.formed c.args.place c.args.p Nil (sym c.in-Nil.ensures))) c.put-bytes-in-Nil.ensures
+returns-in-Nil t c = put_as (sym (text_as c.args.names.now (vec_items c.args.rule.now.nodes) c.args.rule.now.formed c.args.place c.args.p Nil (sym c.in-Nil.ensures))) c.put_bytes-in-Nil.ensures
 
 pub returns-in-Leaf : goal.returns-in-Leaf
 returns-in-Leaf t c =
-    let is = c.leaf-parts.ensures.text ∙ sym (text_as c.args.names.now (vec_items c.args.rule.now.nodes) c.args.rule.now.formed c.args.place c.args.p (Leaf c.in-Leaf.test) (sym c.in-Leaf.ensures)) in
-    put_as is (put_then (omega (arith, c.requires.room, ap length is)) c.put-bytes-marked.ensures c.put-bytes-in-Leaf.ensures)
+    let is = c.leaf_parts.ensures.text ∙ sym (text_as c.args.names.now (vec_items c.args.rule.now.nodes) c.args.rule.now.formed c.args.place c.args.p (Leaf c.in-Leaf.test) (sym c.in-Leaf.ensures)) in
+    put_as is (put_then (omega (arith, c.requires.room, ap length is)) c.put_bytes-marked.ensures c.put_bytes-in-Leaf.ensures)
 
 pub returns-in-Repeat : goal.returns-in-Repeat
 returns-in-Repeat t c =
     let is = sym (text_as c.args.names.now (vec_items c.args.rule.now.nodes) c.args.rule.now.formed c.args.place c.args.p (Repeat c.in-Repeat.child) (sym c.in-Repeat.ensures)) in
-    put_as is (put_then (omega (arith, c.requires.room, ap length is)) c.put-inner.ensures c.put-bytes-in-Repeat.ensures)
+    put_as is (put_then (omega (arith, c.requires.room, ap length is)) c.put-inner.ensures c.put_bytes-in-Repeat.ensures)
 
 -- how many bytes the parts of a chain or a choice have together
 join_room : (names : List (List ℕ)) (ns : List Node) → WellFormed ns → (place : Place) (p l r : ℕ) (j : Joining) (b : Bool) (pre post : List ℕ) → form_at ns p ≡ Join j l r → b ≡ needs_brackets place j → pre ≡ cond b (codes "(") [] → post ≡ cond b (codes ")") []
@@ -64,36 +64,36 @@ join_room : (names : List (List ℕ)) (ns : List Node) → WellFormed ns → (pl
 join_room names ns w place p l r j b pre post e c o k =
     join_long pre (text_at names ns (Left j) l) (between j) (text_at names ns (Right j) r) post (text_at names ns place p) (join_text names ns w place p l r j b pre post (between j) e c o k refl)
 
-pub put-bytes-opened-requires : goal.put-bytes-opened-requires
-put-bytes-opened-requires t c =
-    let room = join_room c.args.names.now (vec_items c.args.rule.now.nodes) c.args.rule.now.formed c.args.place c.args.p c.in-Join.left c.in-Join.right c.in-Join.join _ _ _ (sym c.in-Join.ensures) c.needs-brackets.ensures c.brackets.ensures.open c.brackets.ensures.close in
+pub put_bytes-opened-requires : goal.put_bytes-opened-requires
+put_bytes-opened-requires t c =
+    let room = join_room c.args.names.now (vec_items c.args.rule.now.nodes) c.args.rule.now.formed c.args.place c.args.p c.in-Join.left c.in-Join.right c.in-Join.join _ _ _ (sym c.in-Join.ensures) c.needs_brackets.ensures c.brackets.ensures.open c.brackets.ensures.close in
     omega (arith, room, c.requires.room)
 
 pub put-first-requires : goal.put-first-requires
 put-first-requires t c =
     let ns = vec_items c.args.rule.now.nodes in
     let f = join_facts (spans ns c.args.rule.now.formed) c.args.p c.in-Join.left c.in-Join.right c.in-Join.join (sym c.in-Join.ensures) in
-    let room = join_room c.args.names.now ns c.args.rule.now.formed c.args.place c.args.p c.in-Join.left c.in-Join.right c.in-Join.join _ _ _ (sym c.in-Join.ensures) c.needs-brackets.ensures c.brackets.ensures.open c.brackets.ensures.close in
-    (omega arith, (omega arith, (c.requires.named, omega (arith, room, c.requires.room, c.put-bytes-opened.ensures.ends, c.put-bytes-opened.auto.memory))))
+    let room = join_room c.args.names.now ns c.args.rule.now.formed c.args.place c.args.p c.in-Join.left c.in-Join.right c.in-Join.join _ _ _ (sym c.in-Join.ensures) c.needs_brackets.ensures c.brackets.ensures.open c.brackets.ensures.close in
+    (omega arith, (omega arith, (c.requires.named, omega (arith, room, c.requires.room, c.put_bytes-opened.ensures.ends, c.put_bytes-opened.auto.memory))))
 
-pub put-bytes-parted-requires : goal.put-bytes-parted-requires
-put-bytes-parted-requires t c =
-    let room = join_room c.args.names.now (vec_items c.args.rule.now.nodes) c.args.rule.now.formed c.args.place c.args.p c.in-Join.left c.in-Join.right c.in-Join.join _ _ _ (sym c.in-Join.ensures) c.needs-brackets.ensures c.brackets.ensures.open c.brackets.ensures.close in
-    omega (arith, room, c.requires.room, ap length c.between.ensures, c.put-bytes-opened.ensures.ends, c.put-bytes-opened.auto.memory, c.put-first.ensures.ends, c.put-first.auto.memory)
+pub put_bytes-parted-requires : goal.put_bytes-parted-requires
+put_bytes-parted-requires t c =
+    let room = join_room c.args.names.now (vec_items c.args.rule.now.nodes) c.args.rule.now.formed c.args.place c.args.p c.in-Join.left c.in-Join.right c.in-Join.join _ _ _ (sym c.in-Join.ensures) c.needs_brackets.ensures c.brackets.ensures.open c.brackets.ensures.close in
+    omega (arith, room, c.requires.room, ap length c.between.ensures, c.put_bytes-opened.ensures.ends, c.put_bytes-opened.auto.memory, c.put-first.ensures.ends, c.put-first.auto.memory)
 
 pub put-second-requires : goal.put-second-requires
 put-second-requires t c =
     let ns = vec_items c.args.rule.now.nodes in
     let f = join_facts (spans ns c.args.rule.now.formed) c.args.p c.in-Join.left c.in-Join.right c.in-Join.join (sym c.in-Join.ensures) in
-    let room = join_room c.args.names.now ns c.args.rule.now.formed c.args.place c.args.p c.in-Join.left c.in-Join.right c.in-Join.join _ _ _ (sym c.in-Join.ensures) c.needs-brackets.ensures c.brackets.ensures.open c.brackets.ensures.close in
-    (omega arith, (omega arith, (c.requires.named, omega (arith, room, c.requires.room, ap length c.between.ensures, c.put-bytes-opened.ensures.ends, c.put-bytes-opened.auto.memory, c.put-first.ensures.ends, c.put-first.auto.memory, c.put-bytes-parted.ensures.ends, c.put-bytes-parted.auto.memory))))
+    let room = join_room c.args.names.now ns c.args.rule.now.formed c.args.place c.args.p c.in-Join.left c.in-Join.right c.in-Join.join _ _ _ (sym c.in-Join.ensures) c.needs_brackets.ensures c.brackets.ensures.open c.brackets.ensures.close in
+    (omega arith, (omega arith, (c.requires.named, omega (arith, room, c.requires.room, ap length c.between.ensures, c.put_bytes-opened.ensures.ends, c.put_bytes-opened.auto.memory, c.put-first.ensures.ends, c.put-first.auto.memory, c.put_bytes-parted.ensures.ends, c.put_bytes-parted.auto.memory))))
 
-pub put-bytes-requires-in-Join : goal.put-bytes-requires-in-Join
-put-bytes-requires-in-Join t c =
-    let room = join_room c.args.names.now (vec_items c.args.rule.now.nodes) c.args.rule.now.formed c.args.place c.args.p c.in-Join.left c.in-Join.right c.in-Join.join _ _ _ (sym c.in-Join.ensures) c.needs-brackets.ensures c.brackets.ensures.open c.brackets.ensures.close in
-    omega (arith, room, c.requires.room, ap length c.between.ensures, c.put-bytes-opened.ensures.ends, c.put-bytes-opened.auto.memory, c.put-first.ensures.ends, c.put-first.auto.memory, c.put-bytes-parted.ensures.ends, c.put-bytes-parted.auto.memory, c.put-second.ensures.ends, c.put-second.auto.memory)
+pub put_bytes-requires-in-Join : goal.put_bytes-requires-in-Join
+put_bytes-requires-in-Join t c =
+    let room = join_room c.args.names.now (vec_items c.args.rule.now.nodes) c.args.rule.now.formed c.args.place c.args.p c.in-Join.left c.in-Join.right c.in-Join.join _ _ _ (sym c.in-Join.ensures) c.needs_brackets.ensures c.brackets.ensures.open c.brackets.ensures.close in
+    omega (arith, room, c.requires.room, ap length c.between.ensures, c.put_bytes-opened.ensures.ends, c.put_bytes-opened.auto.memory, c.put-first.ensures.ends, c.put-first.auto.memory, c.put_bytes-parted.ensures.ends, c.put_bytes-parted.auto.memory, c.put-second.ensures.ends, c.put-second.auto.memory)
 
 pub returns-in-Join : goal.returns-in-Join
 returns-in-Join t c =
-    put_join _ (join_text c.args.names.now (vec_items c.args.rule.now.nodes) c.args.rule.now.formed c.args.place c.args.p c.in-Join.left c.in-Join.right c.in-Join.join _ _ _ _ (sym c.in-Join.ensures) c.needs-brackets.ensures c.brackets.ensures.open c.brackets.ensures.close c.between.ensures)
-    c.requires.room c.put-bytes-opened.ensures c.put-first.ensures c.put-bytes-parted.ensures c.put-second.ensures c.put-bytes-in-Join.ensures
+    put_join _ (join_text c.args.names.now (vec_items c.args.rule.now.nodes) c.args.rule.now.formed c.args.place c.args.p c.in-Join.left c.in-Join.right c.in-Join.join _ _ _ _ (sym c.in-Join.ensures) c.needs_brackets.ensures c.brackets.ensures.open c.brackets.ensures.close c.between.ensures)
+    c.requires.room c.put_bytes-opened.ensures c.put-first.ensures c.put_bytes-parted.ensures c.put-second.ensures c.put_bytes-in-Join.ensures

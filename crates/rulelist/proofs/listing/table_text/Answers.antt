@@ -11,7 +11,7 @@ more_rows ns next far k = append_assoc header (rows ns next far k) _ ∙ ap (λ 
 
 pub loop-i-preserved : goal.loop-i-preserved
 loop-i-preserved c =
-    let line : c.as-str.result.now ≡ row c.loop-i.i (get_or c.args.nodes.now c.loop-i.i no_node) (get_or c.args.next.now c.loop-i.i 0) (get_or c.args.far.now c.loop-i.i None) = c.as-str.ensures.value ∙ c.in-ok-row.ensures in
-    pushed c.as-str.result.now c.loop-i.invariant c.in-ok-push-str.was c.push-str.ensures.bytes
+    let line : c.as_str.result.now ≡ row c.loop-i.i (get_or c.args.nodes.now c.loop-i.i no_node) (get_or c.args.next.now c.loop-i.i 0) (get_or c.args.far.now c.loop-i.i None) = c.as_str.ensures.value ∙ c.in_ok-row.ensures in
+    pushed c.as_str.result.now c.loop-i.invariant c.in_ok-push_str.was c.push_str.ensures.bytes
     ∙ ap (λ (x : List ℕ). (header ++ rows c.args.nodes.now c.args.next.now c.args.far.now c.loop-i.i) ++ x) line
     ∙ more_rows c.args.nodes.now c.args.next.now c.args.far.now c.loop-i.i

@@ -6,16 +6,16 @@ use Rattle.lockstep.specs.Next.{NextTable}
 use Rattle.lockstep.specs.Far.{IsShort, FarTable, AtMost}
 use Rattle.lockstep.proofs.tables.Tables.fill_by_flags.Goals as goal
 
-pub fill-far-requires : goal.fill-far-requires
-fill-far-requires c =
+pub fill_far-requires : goal.fill_far-requires
+fill_far-requires c =
     let ns = vec_items c.args.rule.now.nodes in
     let count = ap length c.nodes-count.ensures in
-    let next-kept = with_items_is c.refill.new.table c.fill-next.new.next (omega arith) in
+    let next-kept = with_items_is c.refill.new.table c.fill_next.new.next (omega arith) in
     record {
-      next = subst (NextTable ns) (sym (c.deref-2.ensures.value ∙ next-kept)) (omega arith, c.fill-next.ensures);
-      low = subst (λ (xs : List (Option ℕ)). (q : ℕ) → q < length ns → AtMost 512 (get_or xs q None)) (sym c.deref-3.ensures.value) c.fill-short.ensures.low;
-      short-len = omega arith;
-      far-len = omega arith;
+      next = subst (NextTable ns) (sym (c.deref-2.ensures.value ∙ next-kept)) (omega arith, c.fill_next.ensures);
+      low = subst (λ (xs : List (Option ℕ)). (q : ℕ) → q < length ns → AtMost 512 (get_or xs q None)) (sym c.deref-3.ensures.value) c.fill_short.ensures.low;
+      short_len = omega arith;
+      far_len = omega arith;
     }
 
 pub returns : goal.returns
@@ -23,20 +23,20 @@ returns c =
     let ns = vec_items c.args.rule.now.nodes in
     let count = ap length c.nodes-count.ensures in
     let possible = vec_items c.args.self.now.possible in
-    let short = vec_items c.fill-short.new.short in
-    let far = c.fill-far.new.far in
-    let next = (with_items c.refill.new.table c.fill-next.new.next).items in
-    let next-kept = with_items_is c.refill.new.table c.fill-next.new.next (omega arith) in
+    let short = vec_items c.fill_short.new.short in
+    let far = c.fill_far.new.far in
+    let next = (with_items c.refill.new.table c.fill_next.new.next).items in
+    let next-kept = with_items_is c.refill.new.table c.fill_next.new.next (omega arith) in
     let far-kept = with_items_is c.refill-2.new.table far (omega arith) in
     record {
-      next = subst (NextTable ns) (sym next-kept) (omega arith, c.fill-next.ensures);
+      next = subst (NextTable ns) (sym next-kept) (omega arith, c.fill_next.ensures);
       far = subst (FarTable (λ t. get_or possible t false) ns next) (sym far-kept) (
         omega arith,
         record {
           short = λ q. get_or short q None;
-          is_short = subst (λ (flags : List Bool). IsShort (λ t. get_or flags t false) ns (λ q. get_or short q None)) c.deref.ensures.value c.fill-short.ensures.value;
-          end = c.fill-far.ensures.end;
-          step = λ p h. (let s = c.fill-far.ensures.step p h in let read_next = c.deref-2.ensures.value in let read_short = c.deref-3.ensures.value in cc);
+          is_short = subst (λ (flags : List Bool). IsShort (λ t. get_or flags t false) ns (λ q. get_or short q None)) c.deref.ensures.value c.fill_short.ensures.value;
+          end = c.fill_far.ensures.end;
+          step = λ p h. (let s = c.fill_far.ensures.step p h in let read_next = c.deref-2.ensures.value in let read_short = c.deref-3.ensures.value in cc);
         },
       );
     }

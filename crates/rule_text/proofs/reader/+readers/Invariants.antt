@@ -1,9 +1,9 @@
 -- The remaining text falls over the cycle and from turn to turn; a turn goes on with what the loop began with.
-use Rattle.std.proofs.Common.{ℕ, ◌+◌, ◌*◌, ◌<◌, Bool, List, length, vec_items}
+use Rattle.std.proofs.Common.{◌+◌, ◌*◌, ◌<◌, Bool, List, length, vec_items}
 use Rattle.rules.specs.declared.node.Node.{Node}
 use Rattle.rule_text.specs.Grammar.{choice, chain, item, atom}
 use Rattle.rule_text.specs.Readers.{Done}
-use Rattle.rule_text.proofs.reader.+atom_chain_choice_further_chain_further_item_item.Given as goal
+use Rattle.rule_text.proofs.reader.+readers.Given as goal
 
 abbrev pub decreases-atom : goal.decreases-atom
 decreases-atom l = 6 * length l.text.now
@@ -14,14 +14,14 @@ decreases-item l = 6 * length l.text.now + 1
 abbrev pub decreases-chain : goal.decreases-chain
 decreases-chain l = 6 * length l.text.now + 2
 
-abbrev pub decreases-further-item : goal.decreases-further-item
-decreases-further-item l = 6 * length l.text.now + 3
+abbrev pub decreases-further_item : goal.decreases-further_item
+decreases-further_item l = 6 * length l.text.now + 3
 
 abbrev pub decreases-choice : goal.decreases-choice
 decreases-choice l = 6 * length l.text.now + 4
 
-abbrev pub decreases-further-chain : goal.decreases-further-chain
-decreases-further-chain l = 6 * length l.text.now + 5
+abbrev pub decreases-further_chain : goal.decreases-further_chain
+decreases-further_chain l = 6 * length l.text.now + 5
 
 abbrev pub invariant-item-loop-next : goal.invariant-item-loop-next
 invariant-item-loop-next l =
