@@ -1,25 +1,23 @@
 -- What is written is read back as the same list.
-use Rattle.std.proofs.Common.{◌≡◌, ℕ, suc, ◌+◌, ◌<◌, ◌≤◌, max, Bool, true, false, cond, not, ◌&&◌, List, [], ◌∷◌, ◌++◌, length, get_or, drop, Some, codes, sym, refl, ap, ◌∙◌, subst, ap₂, ⊎_elim, append_assoc, append-nil, arith, length-append}
+use Rattle.std.proofs.Common.{◌≡◌, ℕ, suc, ◌+◌, ◌<◌, ◌≤◌, max, Bool, true, false, cond, not, ◌&&◌, List, [], ◌∷◌, ◌++◌, length, get_or, drop, Some, codes, sym, refl, ap, ◌∙◌, subst, ap₂, append_assoc, append-nil, arith, length-append}
 use Rattle.std.proofs.lemmas.List.{drop_at}
-use Rattle.std.proofs.lemmas.Bool.{cases_Bool, cond-true, cond-false, and_parts}
+use Rattle.std.proofs.lemmas.Bool.{cond-true, cond-false, and_parts}
 use Rattle.std.specs.Str.{bytes_eq}
 use Rattle.rules.specs.declared.node.Join.{Join as Joining}
 use Rattle.rules.specs.declared.node.Join.TheVariants.{Chain, Choice}
 use Rattle.rules.specs.declared.node.Node.{Node}
 use Rattle.rules.specs.declared.node.Shape.TheVariants.{Join, Repeat}
-use Rattle.rules.specs.Nodes.{WellFormed}
-use Rattle.rule_text.specs.Words.{Word, name, nil, void, open', close', bar, star, bang, no_name, in_run, front, is_name, is_test_name, run_word, words, words_in}
-use Rattle.rule_text.specs.Names.{is_entry, test_named, GoodNames}
+use Rattle.rule_text.specs.Words.{Word, name, nil, void, open', close', bar, star, bang, no_name, in_run, front, is_name, is_test_name, run_word, words}
+use Rattle.rule_text.specs.Names.{test_named, GoodNames}
 use Rattle.rule_text.specs.Faults.{by_list}
-use Rattle.rule_text.specs.Grammar.{Level, choice, chain, item, atom, Naming, Gives, named, opposite, is_nil, is_void, brackets, plain, starred, single, longer, alone, wider, under}
-use Rattle.rule_text.specs.Reading.{Taken}
+use Rattle.rule_text.specs.Grammar.{Level, choice, chain, item, Naming, Gives, named, opposite, is_nil, is_void, brackets, plain, starred, single, longer, alone, wider, under}
 use Rattle.rule_text.proofs.Entries.{run_first, tail, fills_run, front_run, found_first}
 use Rattle.rule_text.proofs.Lexing.{inside}
 use Rattle.rule_writing.specs.declared.place.Place.{Place}
 use Rattle.rule_writing.specs.declared.place.Place.TheVariants.{Whole, Left, Right, Repeated}
 use Rattle.rule_writing.specs.Texts.{name_at, between, needs_brackets, in_brackets, Writes, named as writesName, opposite as writesOpposite, is_nil as writesNil, is_void as writesVoid, starred as writesStar, joined as writesJoin}
 use Rattle.rule_writing.specs.Parts.{height_in}
-use Rattle.rule_writing.specs.Writing.{FullEntries, Writable, ReadsBack}
+use Rattle.rule_writing.specs.Writing.{FullEntries, ReadsBack}
 use Rattle.rule_writing.proofs.Levels.{level_of}
 use Rattle.rule_writing.proofs.Nesting.{height, deep, depth_is}
 

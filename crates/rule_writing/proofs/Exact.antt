@@ -1,6 +1,6 @@
 -- Writing has one answer.
-use Rattle.std.proofs.Common.{◌≡◌, ℕ, ◌+◌, ◌-◌, ◌*◌, ◌<◌, ◌≤◌, false, List, [], ◌∷◌, ◌++◌, length, get_or, drop, Some, Ok, Err, Result, sym, refl, ap, ◌∙◌, subst, ap₂, inl, inr, ⊎_elim, arith, length-append}
-use Rattle.std.proofs.lemmas.List.{get_or_append_left, get_or-append_right, get_or_push}
+use Rattle.std.proofs.Common.{◌≡◌, ℕ, ◌+◌, ◌-◌, ◌*◌, ◌≤◌, false, List, [], ◌∷◌, ◌++◌, length, drop, Some, Ok, Err, sym, refl, ap, ◌∙◌, subst, ap₂, ⊎_elim, arith, length-append}
+use Rattle.std.proofs.lemmas.List.{get_or_append_left, get_or-append_right}
 use Rattle.std.proofs.lemmas.Bool.{both_ways, cases_lt, cases_order, lt-leb}
 use Rattle.refusals.specs.declared.Fault.{Fault}
 use Rattle.refusals.specs.declared.Refusal.TheVariants.{BadNames, UnknownName}
@@ -9,8 +9,6 @@ use Rattle.rules.specs.declared.node.Shape.{Shape}
 use Rattle.rules.specs.declared.node.Shape.TheVariants.{Join, Repeat}
 use Rattle.rules.specs.Nodes.{FirstTest, node, no_node, shape_at, test_from}
 use Rattle.rule_text.specs.Faults.{fault}
-use Rattle.rule_text.specs.Grammar.{under}
-use Rattle.rule_text.specs.Names.{GoodNames}
 use Rattle.rule_text.proofs.Entries.{not_both, one_place}
 use Rattle.rule_writing.specs.declared.place.Place.{Place}
 use Rattle.rule_writing.specs.Texts.{Writes, named, opposite, is_nil, is_void, starred, joined, IsText, nesting}

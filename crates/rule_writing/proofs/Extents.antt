@@ -1,5 +1,5 @@
 -- The extent of a node's text, by the node's form.
-use Rattle.std.proofs.Common.{◌≡◌, ℕ, ◌+◌, ◌*◌, ◌<◌, ◌≤◌, max, Bool, true, false, List, [], ◌∷◌, ◌++◌, length, codes, sym, refl, ap, ◌∙◌, subst, arith, length-append}
+use Rattle.std.proofs.Common.{◌≡◌, ℕ, ◌+◌, ◌*◌, ◌<◌, ◌≤◌, max, Bool, true, false, List, ◌++◌, length, codes, sym, refl, ap, ◌∙◌, subst, arith, length-append}
 use Rattle.rules.specs.declared.node.Join.{Join as Joining}
 use Rattle.rules.specs.declared.node.Join.TheVariants.{Chain, Choice}
 use Rattle.rules.specs.declared.node.Node.{Node}
@@ -7,7 +7,7 @@ use Rattle.rules.specs.declared.node.Form.{Form}
 use Rattle.rules.specs.declared.node.Form.TheVariants.{Void, Nil, Leaf, Join, Repeat}
 use Rattle.rules.specs.Nodes.{size_at, form_at, WellFormed}
 use Rattle.rules.proofs.Sizes.{size_within}
-use Rattle.rules.proofs.Spans.{spans, join_facts, repeat_facts, join_size}
+use Rattle.rules.proofs.Spans.{spans, repeat_facts, join_size}
 use Rattle.rule_writing.specs.declared.place.Place.{Place}
 use Rattle.rule_writing.specs.declared.place.Place.TheVariants.{Left, Right, Repeated}
 use Rattle.rule_writing.specs.Texts.{between, needs_brackets, in_brackets}

@@ -8,8 +8,8 @@ use Rattle.rules.specs.declared.node.Join.TheVariants.{Chain, Choice}
 use Rattle.rules.specs.declared.node.Node.{Node}
 use Rattle.rules.specs.declared.node.Shape.TheVariants.{Void, Nil, Leaf, Join, Repeat}
 use Rattle.rules.specs.Nodes.{Rooted}
-use Rattle.rule_text.specs.Words.{Word, name, nil, void, open', close', bar, star, bang, no_name, stray, in_run, blank, front, is_name, run_word, mark, words, words_in}
-use Rattle.rule_text.specs.Grammar.{Level, choice, chain, item, atom, Naming, Gives, named, opposite, is_nil, is_void, brackets, plain, starred, single, longer, alone, wider, under}
+use Rattle.rule_text.specs.Words.{Word, name, nil, void, open', close', bar, star, bang, no_name, stray, in_run, blank, front, is_name, run_word, mark, words}
+use Rattle.rule_text.specs.Grammar.{Level, choice, chain, Naming, Gives, named, opposite, is_nil, is_void, brackets, plain, starred, single, longer, alone, wider, under}
 use Rattle.rule_text.specs.Readers.{loose}
 use Rattle.rule_text.proofs.Drafting.{gives_rooted}
 use Rattle.rule_writing.specs.declared.place.Place.{Place}

@@ -1,5 +1,4 @@
 -- The level of the grammar that is read at each place of a rule.
-use Rattle.std.proofs.Common.{ℕ}
 use Rattle.rules.specs.declared.node.Join.TheVariants.{Chain, Choice}
 use Rattle.rule_text.specs.Grammar.{Level, choice, chain, item}
 use Rattle.rule_writing.specs.declared.place.Place.{Place}

@@ -1,5 +1,5 @@
 -- One text written after another.
-use Rattle.std.proofs.Common.{◌≡◌, ℕ, ◌+◌, ◌-◌, ◌<◌, ◌≤◌, Bool, true, false, cond, List, [], ◌∷◌, ◌++◌, length, take, drop, codes, sym, refl, ap, ◌∙◌, subst, ap₂, append_assoc, append-nil, arith, length-append, length-drop, length-take}
+use Rattle.std.proofs.Common.{◌≡◌, ℕ, ◌+◌, ◌≤◌, Bool, true, false, cond, List, [], ◌++◌, length, take, drop, codes, sym, refl, ap, ◌∙◌, subst, ap₂, append_assoc, append-nil, arith, length-append, length-drop, length-take}
 use Rattle.std.proofs.lemmas.List.{drop-drop}
 use Rattle.std.proofs.lemmas.Slice.{take-put_mid, drop-put_mid}
 use Rattle.rules.specs.declared.node.Join.{Join as Joining}
@@ -9,7 +9,7 @@ use Rattle.rules.specs.Nodes.{form_at, WellFormed}
 use Rattle.rule_writing.specs.declared.place.Place.{Place}
 use Rattle.rule_writing.specs.declared.place.Place.TheVariants.{Left, Right}
 use Rattle.rule_writing.specs.Texts.{between, needs_brackets, in_brackets}
-use Rattle.rule_writing.specs.Parts.{text_at, overwritten, Puts}
+use Rattle.rule_writing.specs.Parts.{text_at, Puts}
 use Rattle.rule_writing.proofs.Positions.{text_as}
 
 pub put_length : {text before after : List ℕ} {at end : ℕ} → at + length text ≤ length before → Puts text before at after end → length after ≡ length before

@@ -1,11 +1,11 @@
 -- What is written of a part, by the shape of its last node; and that it is written in one way.
-use Rattle.std.proofs.Common.{◌≡◌, ℕ, ◌+◌, ◌-◌, ◌<◌, cond, ltb, List, [], ◌∷◌, ◌++◌, length, codes, sym, refl, ap, ◌∙◌, subst, ap₂, arith}
+use Rattle.std.proofs.Common.{◌≡◌, ℕ, ◌+◌, ◌-◌, List, ◌++◌, length, codes, sym, refl, ap, ◌∙◌, subst, ap₂, arith}
 use Rattle.std.proofs.lemmas.Bool.{cond-true, cond-false, lt-ltb, le-ltb}
 use Rattle.rules.specs.declared.node.Join.{Join as Joining}
 use Rattle.rules.specs.declared.node.Node.{Node}
 use Rattle.rules.specs.declared.node.Shape.{Shape}
 use Rattle.rules.specs.declared.node.Shape.TheVariants.{Void, Nil, Leaf, Join, Repeat}
-use Rattle.rules.specs.Nodes.{node, Rooted}
+use Rattle.rules.specs.Nodes.{Rooted}
 use Rattle.rule_text.specs.Grammar.{under}
 use Rattle.rule_text.proofs.Drafting.{under_rooted}
 use Rattle.rule_writing.specs.declared.place.Place.{Place}

@@ -1,5 +1,5 @@
 -- The text of a whole rule: refused where it is unfit, and else written at the front of the memory.
-use Rattle.std.proofs.Common.{◌≡◌, ℕ, ◌+◌, ◌-◌, ◌≤◌, List, [], ◌++◌, length, drop, Ok, sym, refl, ap, ◌∙◌, subst, ap₂, arith}
+use Rattle.std.proofs.Common.{◌≡◌, ℕ, ◌-◌, ◌≤◌, List, ◌++◌, length, drop, Ok, sym, ap, ◌∙◌, subst, arith}
 use Rattle.refusals.specs.declared.Fault.{Fault}
 use Rattle.rules.specs.declared.node.Node.{Node}
 use Rattle.rules.specs.Nodes.{WellFormed}

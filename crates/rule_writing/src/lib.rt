@@ -1,5 +1,6 @@
 // Rule texts: writing a rule as one.
 #![tactic(auto)]
+
 ghost use Rattle.std.specs.Prelude.{◌≤◌, length};
 ghost use Rattle.rule_writing.specs.Parts.{NamesTests, Judges};
 ghost use Rattle.rule_writing.specs.Writing.{Writing};

@@ -1,5 +1,5 @@
 -- The text of each form, part after part.
-use Rattle.std.proofs.Common.{◌≡◌, ℕ, ◌+◌, ◌≤◌, Bool, cond, List, [], length, vec_items, codes, sym, refl, ap, ◌∙◌, arith, length-append}
+use Rattle.std.proofs.Common.{◌≡◌, ℕ, ◌+◌, Bool, cond, List, [], length, vec_items, codes, sym, refl, ap, ◌∙◌, arith, length-append}
 use Rattle.rules.specs.declared.node.Join.{Join as Joining}
 use Rattle.rules.specs.declared.node.Node.{Node}
 use Rattle.rules.specs.Nodes.{form_at, WellFormed}
