@@ -1,5 +1,6 @@
 // Tests of reading: name lists, the order of checks, and what a refusal leaves.
 #![tactic(auto)]
+
 #[cfg(test)]
 mod tests {
     use rule_text::{Entry, read};

@@ -1,5 +1,6 @@
 // Tests of writing: each place where brackets must and must not stand, reading back, the limits, and the order of checks.
 #![tactic(auto)]
+
 #[cfg(test)]
 mod tests {
     use rule_text::{Entry, read};

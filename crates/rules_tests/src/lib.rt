@@ -1,5 +1,6 @@
 // Tests of rules: taking lists of records, and giving a rule's nodes out as records.
 #![tactic(auto)]
+
 #[cfg(test)]
 mod tests {
     use rules::{Record, Rule};
