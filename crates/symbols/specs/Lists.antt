@@ -1,5 +1,6 @@
 -- Lists of tests: what each test of one is, and what adding one gives.
-use Rattle.std.specs.Prelude.{ℕ, ◌<◌, Bool, cond, List, [], ◌∷◌, ◌++◌, length, is_ok, Ok, Err, Result, nat_le, slice_index_or}
+use Rattle.std.specs.Prelude.{◌≡◌, ℕ, ◌<◌, ◌≤◌, Bool, cond, List, [], ◌∷◌, ◌++◌, length, is_ok, Ok, Err, Result, nat_le, slice_index_or}
+use Rattle.std.proofs.Common.{arith}
 use Rattle.refusals.specs.declared.Fault.{Fault}
 use Rattle.refusals.specs.declared.Refusal.{Refusal}
 use Rattle.refusals.specs.declared.Refusal.TheVariants.{KindFull}
@@ -18,3 +19,7 @@ add_answer list sound refusal =
 -- the list after that answer: with the new test at its end where one was added, and else as it was
 abbrev pub added_to : {B : Type 0} → List B → B → Result ℕ Fault → List B
 added_to list new answer = cond (is_ok answer) (list ++ new ∷ []) list
+
+-- a list of 1 to 64 tests has 1 to 256
+pub few_bounds : (count size : ℕ) → count ≡ size → 1 ≤ count → count ≤ 64 → (1 ≤ size) × (size ≤ 256)
+few_bounds count size same some few = (omega arith, omega arith)

@@ -1,5 +1,5 @@
 -- Lists of byte tests: what stands past the end, and which tests some byte meets or fails.
-use Rattle.std.specs.Prelude.{◌≡◌, ℕ, ◌<◌, ◌≤◌, true, false, not, List, length, Decides, ◌≢◌, nat_lt}
+use Rattle.std.specs.Prelude.{◌≡◌, ℕ, ◌<◌, ◌≤◌, true, false, not, List, length, Decides, ◌≢◌, nat_lt, refl}
 use Rattle.std.proofs.Math.Bool.{Bool-set}
 use Rattle.std.proofs.Common.{inl, inr, arith}
 use Rattle.std.proofs.Math.Logic.{∥∥₁_elim}
@@ -7,7 +7,7 @@ use Rattle.std.proofs.lemmas.List.{get_or_past}
 use Rattle.std.proofs.lemmas.Bool.{cases_lt, cases_Bool, cases_eq, lt-ltb, ltb-true}
 use Rattle.std.proofs.lemmas.Bool.Decides.{nat_tests}
 use Rattle.symbols.specs.declared.bytes.ByteTest.{ByteTest}
-use Rattle.symbols.specs.Bytes.{Sound, AllSound, inside, is_every, no_byte, test_at}
+use Rattle.symbols.specs.Bytes.{Sound, AllSound, every_byte, inside, is_every, no_byte, test_at}
 use Rattle.symbols.specs.Kinds.{SomeMeets, SomeFails}
 
 -- a number past the list is the test that no byte meets
@@ -41,6 +41,10 @@ high_fails b h = grind (arith, nat_tests)
 -- every byte meets the test from 0 to 255
 every_meets : (b : ByteTest) (s : ℕ) → is_every b ≡ true → inside b s ≡ true
 every_meets b s h = grind (arith, nat_tests)
+
+-- every byte meets test 0
+pub first_meets : (list : List ByteTest) (s : ℕ) → test_at list 0 ≡ every_byte → inside (test_at list 0) s ≡ true
+first_meets list s e = rw e (every_meets every_byte s refl)
 
 module _ (list : List ByteTest) (each : AllSound list) (t : ℕ) where
   -- some byte meets test t exactly where the list has it

@@ -1,8 +1,8 @@
 // The kind of bytes: a test is a lowest and a highest byte, both included.
 ghost use Rattle.std.specs.Prelude.{◌≡◌, ◌≤◌, false, not, [], ◌∷◌, length, IfOk, vec_len, vec_capacity, nat_lt};
 ghost use Rattle.symbols.specs.Bytes.{AllSound, every_byte, inside, is_every, test_at, add_result, add_after};
-ghost use Rattle.symbols.specs.Ranges.{past_fails, list_meetable, list_failable};
-ghost use Rattle.std.proofs.Common.{rules, arith};
+ghost use Rattle.symbols.specs.Lists.{few_bounds};
+ghost use Rattle.symbols.specs.Ranges.{past_fails, first_meets, list_meetable, list_failable};
 
 use crate::kind::Kind;
 use crate::limits::{MAX_TESTS, refused};
@@ -100,11 +100,11 @@ impl Kind for ByteKind {
 
     ghost can_fail = { λ k t. not (is_every (test_at k.tests.items t)) };
 
-    ghost bounds = { first_of (Prim.search rules, Prim.grind (arith, Self.row.coded.inj)) };
+    ghost bounds = { λ k. few_bounds _ _ k.tests.ok.0 k.some k.few };
 
     ghost past = { λ k t s h. past_fails k.tests.items t s h };
 
-    ghost every = { first_of (Prim.search rules, Prim.grind (arith, Self.row.coded.inj)) };
+    ghost every = { λ k s. first_meets k.tests.items s k.first };
 
     ghost inhabited = { λ k. ∣ 0 ∣₁ };
 

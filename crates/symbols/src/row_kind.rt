@@ -2,9 +2,9 @@
 ghost use Rattle.std.specs.Prelude.{◌≡◌, ◌<◌, ◌≤◌, true, false, not, ◌&&◌, [], ◌∷◌, length, IfOk, vec_len, vec_capacity, nat_lt};
 ghost use Rattle.symbols.specs.Hooks.{every_below};
 ghost use Rattle.symbols.specs.RowTests.{AllSoundRows, every_row, row_test_at, as_wanted, named_if_wanted, row_meets, is_sound, wants_below, is_every_row, add_row_result, add_row_after};
+ghost use Rattle.symbols.specs.Lists.{few_bounds};
 ghost use Rattle.symbols.specs.RowLaws.{past_row_fails, first_meets, rows_meetable, rows_failable};
 ghost use Rattle.symbols.specs.Rows.{fresh_row};
-ghost use Rattle.std.proofs.Common.{rules, arith};
 
 use crate::kind::Kind;
 use crate::limits::{MAX_TESTS, refused};
@@ -184,7 +184,7 @@ impl Kind for RowKind {
 
     ghost can_fail = { λ k t. not (is_every_row (row_test_at k.tests.items t)) };
 
-    ghost bounds = { first_of (Prim.search rules, Prim.grind (arith, Self.row.coded.inj)) };
+    ghost bounds = { λ k. few_bounds _ _ k.tests.ok.0 k.some k.few };
 
     ghost past = { λ k t s h. past_row_fails k.tests.items t h s };
 

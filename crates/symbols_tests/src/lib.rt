@@ -1,5 +1,6 @@
 // Tests of the kinds of symbol, over the library as another crate sees it.
 #![tactic(auto)]
+
 #[cfg(test)]
 mod byte_kinds;
 #[cfg(test)]

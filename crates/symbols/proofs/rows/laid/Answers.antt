@@ -9,9 +9,9 @@ pub returns : goal.returns
 returns c =
     let width = c.args.width in
     let bytes = c.args.bytes.now in
-    let front = c.copy-from-slice.new.self in
+    let front = c.copy_from_slice.new.self in
     let bits = front ++ post_of 0 (length bytes - 0) (replicate 32 0) in
-    let same = pad_is bytes front c.copy-from-slice.ensures.after in
+    let same = pad_is bytes front c.copy_from_slice.ensures.after in
     let ok = c.requires in
     record {
       row = ap {B = Row} (λ b. record { width = width; bits = b }) same;

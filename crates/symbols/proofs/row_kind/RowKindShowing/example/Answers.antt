@@ -4,8 +4,8 @@ use Rattle.symbols.specs.RowTests.{row_test_at}
 use Rattle.symbols.specs.RowLaws.{inside_shown}
 use Rattle.symbols.proofs.row_kind.RowKindShowing.example.Goals as goal
 
-pub returns-else-not-wants-below : goal.returns-else-not-wants-below
-returns-else-not-wants-below c =
+pub returns-else-not-wants_below : goal.returns-else-not-wants_below
+returns-else-not-wants_below c =
     let kind = c.args.self.now in
     let list = vec_items kind.tests in
     let test = c.in-Some.test.now in
@@ -14,5 +14,5 @@ returns-else-not-wants-below c =
     record {
       answer = search rules;
       shown =
-          inside_shown (row_test_at list c.args.t) (kind.sound c.args.t here) test same (sym c.if-not-wants-below.ensures) c.inside.result c.inside.ensures;
+          inside_shown (row_test_at list c.args.t) (kind.sound c.args.t here) test same (sym c.if-not-wants_below.ensures) c.inside.result c.inside.ensures;
     }

@@ -3,11 +3,11 @@ use Rattle.std.proofs.Common.{sym, arith}
 use Rattle.symbols.specs.RowLaws.{blank_fails, full_fails, named_some, widths}
 use Rattle.symbols.proofs.row_kind.RowTest.outside.Goals as goal
 
-pub returns-then-none-from : goal.returns-then-none-from
-returns-then-none-from c sound some =
+pub returns-then-none_from : goal.returns-then-none_from
+returns-then-none_from c sound some =
     let b = c.args.self.now in
     let named = named_some b (omega arith) (widths b sound).1 (omega arith) some in
-    rw c.kept-then-none-from.ensures (full_fails b sound (sym c.if-none-from.ensures) named)
+    rw c.kept-then-none_from.ensures (full_fails b sound (sym c.if-none_from.ensures) named)
 
 pub returns : goal.returns
-returns c sound _ = rw c.kept-2.ensures (blank_fails c.args.self.now sound (sym c.if-none-from.ensures))
+returns c sound _ = rw c.kept-2.ensures (blank_fails c.args.self.now sound (sym c.if-none_from.ensures))
