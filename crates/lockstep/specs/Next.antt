@@ -1,5 +1,5 @@
 -- Next: the number of what follows a node, where the node count stands for the end.
-use Rattle.std.specs.Prelude.{◌≡◌, ℕ, ◌-◌, ◌<◌, ◌≤◌, List, length, set, slice_index, slice_set}
+use Rattle.std.specs.Prelude.{◌≡◌, ℕ, ◌-◌, ◌<◌, ◌≤◌, List, length, slice_index, slice_set}
 use Rattle.rules.specs.declared.node.Node.{Node}
 use Rattle.rules.specs.declared.node.Join.{Join}
 use Rattle.rules.specs.declared.node.Join.TheVariants.{Chain as chain, Choice as choice}

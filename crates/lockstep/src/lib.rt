@@ -1,5 +1,6 @@
 // What the lockstep reading of a rule goes by: the rule's tables.
 #![tactic(auto)]
+
 ghost use Rattle.lockstep.specs.Next.{OneNext};
 ghost use Rattle.lockstep.specs.Far.{OneFar};
 ghost use Rattle.lockstep.specs.Word.{OneWord, ShortOfWord};

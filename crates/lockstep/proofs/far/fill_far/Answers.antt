@@ -12,8 +12,8 @@ loop-p-init c =
     subst (λ n. AddedFrom ns next short (set c.args.far.now n (Some 0)) n) (sym (ap length c.nodes-count.ensures))
     (end_added ns c.args.rule.now.formed next c.requires.next.1 short c.requires.low c.args.far.now c.requires.far_len)
 
-pub slice-copy-out·add : goal.slice-copy-out·add
-slice-copy-out·add c =
+pub slice_copy_out-add : goal.slice_copy_out-add
+slice_copy_out-add c =
     let count = ap length c.nodes-count.ensures in
     omega (arith, next_later (vec_items c.args.rule.now.nodes) c.args.rule.now.formed (λ q. get_or c.args.next.now q 0) c.requires.next.1 (c.loop-p.p - 1) (omega arith), c.loop-p.invariant.long)
 
