@@ -1,5 +1,6 @@
 // Lists the nodes of the rule whose text stands on standard input, or says the text's first fault.
 #![tactic(auto)]
+
 mod listing;
 #[cfg(test)]
 mod tests;
