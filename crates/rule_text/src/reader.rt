@@ -2,10 +2,10 @@
 ghost use Rattle.std.specs.Prelude.{◌≡◌, ◌<◌, ◌≤◌, length, MatchResult};
 ghost use Rattle.refusals.specs.declared.Refusal.TheVariants.{Misplaced, TooDeep};
 ghost use Rattle.rule_text.specs.Faults.{fault};
-ghost use Rattle.rule_text.specs.Grammar.{choice as choiceLevel, chain as chainLevel, item as itemLevel, atom as atomLevel};
+ghost use Rattle.rule_text.specs.Grammar.{choice as choice_level, chain as chain_level, item as item_level, atom as atom_level};
 ghost use Rattle.rule_text.specs.Names.{GoodNames};
 ghost use Rattle.rule_text.specs.Readers.{TestOf, NameIn, Opposite, Outcome, Joins};
-ghost use Rattle.rules.specs.declared.node.Join.TheVariants.{Chain as chainJoin, Choice as choiceJoin};
+ghost use Rattle.rules.specs.declared.node.Join.TheVariants.{Chain as chain_join, Choice as choice_join};
 
 use crate::names::{Entry, find};
 use crate::words::{Placed, Word, next_word};
@@ -92,7 +92,7 @@ pub(crate) fn choice<'a>(
     requires good { GoodNames names.now }
     requires fits { length text.now ≤ whole }
     requires shallow { depth ≤ 16 }
-    ensures { Outcome names.now choiceLevel whole text.now depth draft.old.nodes.items draft.old.over draft.new.nodes.items draft.new.over result }
+    ensures { Outcome names.now choice_level whole text.now depth draft.old.nodes.items draft.old.over draft.new.nodes.items draft.new.over result }
 {
     let mut rest = chain(names, whole, text, depth, draft)?;
     loop {
@@ -116,7 +116,7 @@ fn further_chain<'a>(
     requires good { GoodNames names.now }
     requires fits { length text.now ≤ whole }
     requires shallow { depth ≤ 16 }
-    ensures { Joins names.now chainLevel choiceJoin whole text.now depth draft.old.nodes.items draft.old.over draft.new.nodes.items draft.new.over result }
+    ensures { Joins names.now chain_level choice_join whole text.now depth draft.old.nodes.items draft.old.over draft.new.nodes.items draft.new.over result }
 {
     let rest = chain(names, whole, text, depth, draft)?;
     draft.push(Shape::Join(Join::Choice));
@@ -135,7 +135,7 @@ fn chain<'a>(
     requires good { GoodNames names.now }
     requires fits { length text.now ≤ whole }
     requires shallow { depth ≤ 16 }
-    ensures { Outcome names.now chainLevel whole text.now depth draft.old.nodes.items draft.old.over draft.new.nodes.items draft.new.over result }
+    ensures { Outcome names.now chain_level whole text.now depth draft.old.nodes.items draft.old.over draft.new.nodes.items draft.new.over result }
 {
     let mut rest = item(names, whole, text, depth, draft)?;
     loop {
@@ -159,7 +159,7 @@ fn further_item<'a>(
     requires good { GoodNames names.now }
     requires fits { length text.now ≤ whole }
     requires shallow { depth ≤ 16 }
-    ensures { Joins names.now itemLevel chainJoin whole text.now depth draft.old.nodes.items draft.old.over draft.new.nodes.items draft.new.over result }
+    ensures { Joins names.now item_level chain_join whole text.now depth draft.old.nodes.items draft.old.over draft.new.nodes.items draft.new.over result }
 {
     let rest = item(names, whole, text, depth, draft)?;
     draft.push(Shape::Join(Join::Chain));
@@ -178,7 +178,7 @@ fn item<'a>(
     requires good { GoodNames names.now }
     requires fits { length text.now ≤ whole }
     requires shallow { depth ≤ 16 }
-    ensures { Outcome names.now itemLevel whole text.now depth draft.old.nodes.items draft.old.over draft.new.nodes.items draft.new.over result }
+    ensures { Outcome names.now item_level whole text.now depth draft.old.nodes.items draft.old.over draft.new.nodes.items draft.new.over result }
 {
     let mut rest = atom(names, whole, text, depth, draft)?;
     loop {
@@ -203,7 +203,7 @@ fn atom<'a>(
     requires good { GoodNames names.now }
     requires fits { length text.now ≤ whole }
     requires shallow { depth ≤ 16 }
-    ensures { Outcome names.now atomLevel whole text.now depth draft.old.nodes.items draft.old.over draft.new.nodes.items draft.new.over result }
+    ensures { Outcome names.now atom_level whole text.now depth draft.old.nodes.items draft.old.over draft.new.nodes.items draft.new.over result }
 {
     let next = next_word(whole, text)?;
     match next.word {

@@ -15,7 +15,7 @@ use Rattle.rule_text.proofs.Entries.{run_first, tail, fills_run, front_run, foun
 use Rattle.rule_text.proofs.Lexing.{inside}
 use Rattle.rule_writing.specs.declared.place.Place.{Place}
 use Rattle.rule_writing.specs.declared.place.Place.TheVariants.{Whole, Left, Right, Repeated}
-use Rattle.rule_writing.specs.Texts.{name_at, between, needs_brackets, in_brackets, Writes, named as writesName, opposite as writesOpposite, is_nil as writesNil, is_void as writesVoid, starred as writesStar, joined as writesJoin}
+use Rattle.rule_writing.specs.Texts.{name_at, between, needs_brackets, in_brackets, Writes, named as writes_name, opposite as writes_opposite, is_nil as writes_nil, is_void as writes_void, starred as writes_star, joined as writes_join}
 use Rattle.rule_writing.specs.Parts.{height_in}
 use Rattle.rule_writing.specs.Writing.{FullEntries, ReadsBack}
 use Rattle.rule_writing.proofs.Levels.{level_of}
@@ -190,14 +190,14 @@ between_apart Choice rest = refl
 
 -- what is written at a place is read at its level
 back : {names : List (List ℕ)} {place : Place} {ns : List Node} {text : List ℕ} → GoodNames names → FullEntries names → (w : Writes names place ns text) (d k : ℕ) (rest : List ℕ) → Apart rest → d + height w ≤ 16 → Reads (by_list names) (level_of place) d ns text k rest
-back {names} {place} g full (writesName {t = t} h) d k rest a low =
+back {names} {place} g full (writes_name {t = t} h) d k rest a low =
     let n = name_of names g full t h in
     record {
       used = (k, name (name_at names t)) ∷ [];
       split = run_words k (name_at names t) rest n.run n.some a ∙ ap (λ (w : Word). (k, w) ∷ words (k + length (name_at names t)) false rest) n.word;
       gives = from_item place (plain (named n.test));
     }
-back {names} {place} g full (writesOpposite {t = t} h) d k rest a low =
+back {names} {place} g full (writes_opposite {t = t} h) d k rest a low =
     let x = name_at names t in
     let n = name_of names g full t h in
     let at : k + 1 + length x ≡ k + suc (length x) = omega arith in
@@ -206,10 +206,10 @@ back {names} {place} g full (writesOpposite {t = t} h) d k rest a low =
       split = ap (λ (ws : List (ℕ × Word)). (k, bang) ∷ ws) (run_words (k + 1) x rest n.run n.some a ∙ ap₂ (λ (w : Word) (p : ℕ). (k + 1, w) ∷ words p false rest) n.word at);
       gives = from_item place (plain (opposite n.test));
     }
-back {names} {place} g full writesNil d k rest a low = record { used = (k, nil) ∷ []; split = run_words k (codes "nil") rest refl (omega arith) a; gives = from_item place (plain is_nil) }
-back {names} {place} g full writesVoid d k rest a low = record { used = (k, void) ∷ []; split = run_words k (codes "void") rest refl (omega arith) a; gives = from_item place (plain is_void) }
-back {names} {place} g full (writesStar w) d k rest a low = star_reads place (back g full w d k (42 ∷ rest) refl low)
-back {names} {place} g full (writesJoin {j = j} {left = left} {right = right} w v) d k rest a low =
+back {names} {place} g full writes_nil d k rest a low = record { used = (k, nil) ∷ []; split = run_words k (codes "nil") rest refl (omega arith) a; gives = from_item place (plain is_nil) }
+back {names} {place} g full writes_void d k rest a low = record { used = (k, void) ∷ []; split = run_words k (codes "void") rest refl (omega arith) a; gives = from_item place (plain is_void) }
+back {names} {place} g full (writes_star w) d k rest a low = star_reads place (back g full w d k (42 ∷ rest) refl low)
+back {names} {place} g full (writes_join {j = j} {left = left} {right = right} w v) d k rest a low =
     join_reads place j (needs_brackets place j) (max (height w) (height v)) refl a low (λ d' k' rest' a' low'.
     pair_reads j left right k' rest' (back g full w d' k' (between j ++ (right ++ rest')) (between_apart j (right ++ rest')) (omega arith)) (back g full v d' (k' + length left + length (between j)) rest' a' (omega arith)))
 

@@ -14,7 +14,7 @@ use Rattle.rule_text.specs.Readers.{loose}
 use Rattle.rule_text.proofs.Drafting.{gives_rooted}
 use Rattle.rule_writing.specs.declared.place.Place.{Place}
 use Rattle.rule_writing.specs.declared.place.Place.TheVariants.{Whole, Left, Right, Repeated}
-use Rattle.rule_writing.specs.Texts.{name_at, between, needs_brackets, in_brackets, Writes, named as writesName, opposite as writesOpposite, is_nil as writesNil, is_void as writesVoid, starred as writesStar, joined as writesJoin, brackets_in}
+use Rattle.rule_writing.specs.Texts.{name_at, between, needs_brackets, in_brackets, Writes, named as writes_name, opposite as writes_opposite, is_nil as writes_nil, is_void as writes_void, starred as writes_star, joined as writes_join, brackets_in}
 use Rattle.rule_writing.specs.Parts.{leaf_text}
 use Rattle.rule_writing.specs.Writing.{FewestBrackets}
 use Rattle.rule_writing.proofs.Unders.{top_under, beneath, same_parts}
@@ -133,12 +133,12 @@ in_one true text = let a = brackets_append text (codes ")") in omega arith
 in_one false text = omega arith
 
 at_whole : {names : List (List ℕ)} {place : Place} {ns : List Node} {text : List ℕ} → Writes names place ns text → Alone names ns text
-at_whole (writesName h) = record { inner = _; writes = writesName h; fewer = omega arith }
-at_whole (writesOpposite h) = record { inner = _; writes = writesOpposite h; fewer = omega arith }
-at_whole writesNil = record { inner = _; writes = writesNil; fewer = omega arith }
-at_whole writesVoid = record { inner = _; writes = writesVoid; fewer = omega arith }
-at_whole (writesStar w) = record { inner = _; writes = writesStar w; fewer = omega arith }
-at_whole {place = place} (writesJoin {j = j} w v) = record { inner = _; writes = writesJoin w v; fewer = in_one (needs_brackets place j) _ }
+at_whole (writes_name h) = record { inner = _; writes = writes_name h; fewer = omega arith }
+at_whole (writes_opposite h) = record { inner = _; writes = writes_opposite h; fewer = omega arith }
+at_whole writes_nil = record { inner = _; writes = writes_nil; fewer = omega arith }
+at_whole writes_void = record { inner = _; writes = writes_void; fewer = omega arith }
+at_whole (writes_star w) = record { inner = _; writes = writes_star w; fewer = omega arith }
+at_whole {place = place} (writes_join {j = j} w v) = record { inner = _; writes = writes_join w v; fewer = in_one (needs_brackets place j) _ }
 
 -- what is written of a part at this place opens no more brackets than k
 abbrev AtMost : Place → List Node → ℕ → Type 0

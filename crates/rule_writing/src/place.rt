@@ -1,6 +1,6 @@
 // Where a part of a rule stands, and what is written around it there.
 ghost use Rattle.std.specs.Prelude.{◌≡◌};
-ghost use Rattle.rule_writing.specs.Texts.{between as betweenOf, needs_brackets};
+ghost use Rattle.rule_writing.specs.Texts.{between as between_of, needs_brackets};
 
 use rules::Join;
 
@@ -29,7 +29,7 @@ pub(crate) fn needs_brackets(place: Place, child: Join) -> bool
 
 // What stands between the two parts of a chain or a choice.
 pub(crate) fn between(join: Join) -> &'static [u8]
-    ensures { result.now ≡ betweenOf join }
+    ensures { result.now ≡ between_of join }
 {
     match join {
         Join::Chain => b" ",

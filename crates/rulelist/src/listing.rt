@@ -1,6 +1,6 @@
 // The listing of a rule's text: a line for each node, or the line of its fault.
 ghost use Rattle.std.specs.Prelude.{◌≡◌, ◌+◌, [], ◌∷◌, ◌++◌, length, IfOk, Some, string_bytes};
-ghost use Rattle.rulelist.specs.Listing.{letter_tests, kind_word, field, test_of, row, rows, listing as listingOf, fault_line, Lists, Prints};
+ghost use Rattle.rulelist.specs.Listing.{letter_tests, kind_word, field, test_of, row, rows, listing as listing_of, fault_line, Lists, Prints};
 
 use lockstep::Tables;
 use refusals::Fault;
@@ -92,7 +92,7 @@ fn table_text(
 ) -> Result<String, AllocError>
     requires next { length next.now ≡ length nodes.now }
     requires far { length far.now ≡ length nodes.now + 1 }
-    ensures { IfOk result (λ s. string_bytes s ≡ listingOf nodes.now next.now far.now) }
+    ensures { IfOk result (λ s. string_bytes s ≡ listing_of nodes.now next.now far.now) }
 {
     let mut text = String::from_str(heap, "node kind test size next far\n")?;
     for (i, node) in nodes.iter().enumerate() {
