@@ -1,5 +1,6 @@
 -- The table of refusals: the number and the layer of each, and each layer's name.
-use Rattle.std.specs.Prelude.{List, ℕ, codes}
+use Rattle.std.specs.Prelude.{List, ℕ, ◌++◌, codes, decimal}
+use Rattle.refusals.specs.declared.Fault.{Fault}
 use Rattle.refusals.specs.declared.Layer.{Layer}
 use Rattle.refusals.specs.declared.Layer.TheVariants.{Words, Grammar, Names, Nodes, Watch, Kind}
 use Rattle.refusals.specs.declared.Refusal.{Refusal}
@@ -65,3 +66,7 @@ name_of Names = codes "names"
 name_of Nodes = codes "nodes"
 name_of Watch = codes "watch"
 name_of Kind = codes "kind"
+
+-- a fault, as it is printed: its number, its layer and its place, parted by one space
+abbrev pub fault_text : Fault → List ℕ
+fault_text f = decimal (number_of f.refusal) ++ codes " " ++ name_of (layer_of f.refusal) ++ codes " " ++ decimal f.place

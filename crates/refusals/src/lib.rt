@@ -1,11 +1,14 @@
 // Why a call refuses: one fault type for the whole library.
 #![tactic(auto)]
 
-ghost use Rattle.std.specs.Prelude.{◌≡◌};
-ghost use Rattle.refusals.specs.Table.{number_of, layer_of, name_of};
+ghost use Rattle.std.specs.Prelude.{◌≡◌, Some};
+ghost use Rattle.refusals.specs.Table.{number_of, layer_of, name_of, fault_text};
+
+use std::error::Error;
+use std::fmt;
 
 // The part of the library that a refusal comes from.
-#[derive(Clone, Copy)]
+#[derive(Clone, Copy, Debug, PartialEq, Eq)]
 pub enum Layer {
     Words,
     Grammar,
@@ -16,7 +19,7 @@ pub enum Layer {
 }
 
 // Every refusal there is. docs/REFUSALS.md says exactly when each is given.
-#[derive(Clone, Copy)]
+#[derive(Clone, Copy, Debug, PartialEq, Eq)]
 pub enum Refusal {
     // a byte that belongs to no word and is no blank
     StrayByte = 11,
@@ -67,13 +70,23 @@ pub enum Refusal {
 }
 
 // A refusal and its place: a byte of a text, a node of a list or a count, as docs/REFUSALS.md says, and else 0.
-#[derive(Clone, Copy)]
+#[derive(Clone, Copy, Debug, PartialEq, Eq)]
 pub struct Fault {
     pub refusal: Refusal,
     pub place: usize,
 }
 
 impl Refusal {
+    // This refusal at a place.
+    pub fn at(self, place: usize) -> Fault
+        ensures { result ≡ record { refusal = self; place = place } }
+    {
+        Fault {
+            refusal: self,
+            place,
+        }
+    }
+
     pub fn number(self) -> u8
         ensures { result ≡ number_of self }
     {
@@ -105,18 +118,31 @@ impl Refusal {
     }
 }
 
-impl Layer {
-    // The layer's name, as it is printed.
-    pub fn name(self) -> &'static str
-        ensures { result.now ≡ name_of self }
-    {
-        match self {
+// A layer is printed by its name.
+impl fmt::Display for Layer {
+    ghost output = { λ x. Some (name_of x) };
+
+    fn fmt<W: fmt::Write>(&self, f: &mut fmt::Formatter<W>) -> fmt::Result {
+        f.write_str(match self {
             Layer::Words => "words",
             Layer::Grammar => "grammar",
             Layer::Names => "names",
             Layer::Nodes => "nodes",
             Layer::Watch => "watch",
             Layer::Kind => "kind",
-        }
+        })
     }
 }
+
+// A fault is printed as its number, its layer and its place.
+impl fmt::Display for Fault {
+    ghost output = { λ x. Some (fault_text x) };
+
+    fn fmt<W: fmt::Write>(&self, f: &mut fmt::Formatter<W>) -> fmt::Result {
+        let number = self.refusal.number();
+        let layer = self.refusal.layer();
+        write!(f, "{number} {layer} {}", self.place)
+    }
+}
+
+impl Error for Fault {}
