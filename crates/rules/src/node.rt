@@ -1,7 +1,7 @@
 // Nodes: the parts of a rule.
 
 // The two ways of joining a left and a right child.
-#[derive(Clone, Copy)]
+#[derive(Clone, Copy, Debug, PartialEq, Eq)]
 pub enum Join {
     // a sequence of the left child, then one of the right child
     Chain,
@@ -10,7 +10,7 @@ pub enum Join {
 }
 
 // What a node is.
-#[derive(Clone, Copy)]
+#[derive(Clone, Copy, Debug, PartialEq, Eq)]
 pub enum Shape {
     // gives no sequence
     Void,
@@ -25,14 +25,14 @@ pub enum Shape {
 }
 
 // A node with its size: how many nodes its part of the list has, itself among them.
-#[derive(Clone, Copy)]
+#[derive(Clone, Copy, Debug, PartialEq, Eq)]
 pub struct Node {
     pub shape: Shape,
     pub size: u16,
 }
 
 // A node with the numbers of its children: of a join the left and the right one, of a repeat the only one.
-#[derive(Clone, Copy)]
+#[derive(Clone, Copy, Debug, PartialEq, Eq)]
 pub enum Form {
     Void,
     Nil,

@@ -8,7 +8,7 @@ use crate::rule::{MAX_NODES, Rule};
 use refusals::{Fault, Refusal};
 
 // A node as plain numbers, any at all: the code of its shape, its test and its size.
-#[derive(Clone, Copy)]
+#[derive(Clone, Copy, Debug, PartialEq, Eq)]
 pub struct Record {
     pub code: u32,
     pub test: u32,
