@@ -1,6 +1,7 @@
 -- The sizes of a fitting list: each part has a node, and begins within the list.
-use Rattle.std.proofs.Common.{◌≡◌, ℕ, zero, suc, ◌+◌, ◌-◌, ◌<◌, ◌≤◌, Bool, true, false, cond, ltb, List, length, Some, None, refl, arith}
-use Rattle.std.proofs.lemmas.Bool.{eqb-true, ltb-true}
+use Rattle.std.proofs.Common.{◌≡◌, ℕ, zero, suc, ◌+◌, ◌-◌, ◌<◌, ◌≤◌, Bool, true, false, cond, ltb, List, length, Some, None, Option, sym, refl, subst, inl, inr, arith}
+use Rattle.std.specs.Option.{unwrap_or}
+use Rattle.std.proofs.lemmas.Bool.{eqb-true, ltb-true, cases_lt, lt-ltb, le-ltb}
 use Rattle.rules.specs.declared.node.Node.{Node}
 use Rattle.rules.specs.declared.node.Shape.{Shape}
 use Rattle.rules.specs.declared.node.Shape.TheVariants.{Void, Nil, Leaf, Join, Repeat}
@@ -38,3 +39,11 @@ within_fit size Repeat i ih e = let a = repeated size i (size i) e in omega (ari
 
 pub size_within : (ns : List Node) → Fitting ns → (i : ℕ) → i < length ns → Within (size_at ns) i
 size_within ns f = strong (λ i. i < length ns → Within (size_at ns) i) (λ i ih h. within_fit (size_at ns) (shape_at ns i) i (λ j k. ih j k (omega arith)) (f i h))
+
+-- a size that is read in a list of at most 512 nodes is at most 512
+pub size_few : (ns : List Node) → Fitting ns → length ns ≤ 512 → (i s : ℕ) → Some s ≡ cond (ltb i (length ns)) (Some (size_at ns i)) None → s ≤ 512
+size_few ns f few i s e =
+    subst (λ (o : Option ℕ). unwrap_or o 0 ≤ 512) (sym e) (elim (cases_lt i (length ns)) [
+      | inl l ↦ rw (lt-ltb i (length ns) l) (omega (arith, size_within ns f i l))
+      | inr l ↦ rw (le-ltb i (length ns) l) (omega arith)
+    ])

@@ -1,16 +1,17 @@
 -- Lists of records: those of a well-formed list are good, they tell that list, and a refusal has one place.
-use Rattle.std.proofs.Common.{◌≡◌, ℕ, zero, suc, ◌+◌, ◌-◌, ◌<◌, true, List, [], ◌∷◌, ◌++◌, map, length, get_or, take, Some, None, Ok, Err, Option, sym, refl, ap, ◌∙◌, subst, ap₂, inl, inr, arith}
+use Rattle.std.proofs.Common.{◌≡◌, ℕ, zero, suc, ◌+◌, ◌-◌, ◌<◌, ◌≤◌, Bool, true, false, cond, List, [], ◌∷◌, ◌++◌, map, length, get_or, take, Some, None, Ok, Err, Option, Result, is_ok, IfErr, Decides, sym, refl, ap, ◌∙◌, subst, ap₂, inl, inr, arith}
 use Rattle.std.proofs.lemmas.List.{length-map, length-take-le, get_or-take, map_push, take_more}
-use Rattle.std.proofs.lemmas.Bool.{eqb-true, cases_order}
+use Rattle.std.proofs.lemmas.Bool.{eqb-true, cases_order, true≢false}
 use Rattle.refusals.specs.declared.Fault.{Fault}
 use Rattle.refusals.specs.declared.Refusal.{Refusal}
+use Rattle.refusals.specs.declared.Refusal.TheVariants.{BadNodes}
 use Rattle.rules.specs.declared.node.Join.TheVariants.{Chain, Choice}
 use Rattle.rules.specs.declared.node.Shape.{Shape}
 use Rattle.rules.specs.declared.node.Shape.TheVariants.{Void, Nil, Leaf, Join, Repeat}
 use Rattle.rules.specs.declared.node.Node.{Node}
 use Rattle.rules.specs.declared.record.Record.{Record}
 use Rattle.rules.specs.Nodes.{node, no_node, shape_at, size_at, is_size, Fitting, Rooted, test_of, TestsFit}
-use Rattle.rules.specs.Records.{code_of, record_of, Tells, Good, no_record, size_in, GoodAt, EndsInRoot, BadAt, too_many, bad_record, no_root, RecordsOf, OneAnswer, ComesBack}
+use Rattle.rules.specs.Records.{code_of, record_of, Tells, Good, no_record, size_in, GoodAt, EndsInRoot, BadAt, too_many, bad_record, no_root, RecordsOf, Takes, OneAnswer, ComesBack}
 use Rattle.rules.proofs.Growing.{size_from}
 
 -- the shape that a code and a test tell, and the node that a record does
@@ -133,3 +134,13 @@ one_answer rs old new new' (Err f) (Err f') a b = (ap Err (same_fault f f' (a.0 
 
 pub comes_back : ComesBack
 comes_back ns old new r w a = one_answer (map record_of ns) old new ns r (Ok tt) a (refl, w)
+
+-- good records that are those of these nodes are taken where the last node is the root of all, and else refused at the end
+pub taken : (ns old new : List Node) (rs : List Record) (over : Bool) (r : Result (Unit {0}) Fault) → map record_of ns ≡ rs → Fitting ns → TestsFit ns → length rs ≤ 512 → ((i : ℕ) → i < length rs → GoodAt rs i) → over ≡ false → Decides (is_ok r) ((over ≡ false) × Rooted ns) → IfErr r (λ f. f ≡ record { refusal = BadNodes; place = length ns }) → new ≡ cond (is_ok r) ns old → Takes rs old r new
+taken ns old new rs over (Ok u) e f t few good none whether at is =
+    subst (λ (ms : List Node). RecordsOf ms rs) (sym is) (e, (f, (whether.0 refl).1, omega (arith, same_length ns rs e), t))
+taken ns old new rs over (Err x) e f t few good none whether at is = (
+  ap (λ (y : Fault). y.refusal) at,
+  no_root few (ap (λ (y : Fault). y.place) at ∙ sym (same_length ns rs e)) good (λ r. true≢false (sym (whether.1 (none, roots_back ns rs e r)))),
+  is,
+)

@@ -1,5 +1,6 @@
 -- Node lists: what each node is, which lists are well formed, and how a list grows.
 use Rattle.std.specs.Prelude.{◌≡◌, ℕ, ◌+◌, ◌-◌, ◌<◌, ◌≤◌, Bool, true, false, cond, List, [], ◌∷◌, ◌++◌, length, Some, None, Option, ◌==◌, nat_le, nat_lt, slice_index_or}
+use Rattle.std.specs.Option.{unwrap_or}
 use Rattle.rules.specs.declared.node.Shape.{Shape}
 use Rattle.rules.specs.declared.node.Shape.TheVariants.{Void, Nil, Leaf, Join, Repeat}
 use Rattle.rules.specs.declared.node.Node.{Node}
@@ -52,13 +53,17 @@ Fitting ns = (i : ℕ) → i < length ns → fits_at ns i ≡ true
 abbrev pub Rooted : List Node → Type 0
 Rooted ns = (0 < length ns) × (size_at ns (length ns - 1) ≡ length ns)
 
--- the test of a leaf; 0 of every other shape
+-- the test of a leaf; none of every other shape
+abbrev pub leaf_test : Shape → Option ℕ
+leaf_test Void = None
+leaf_test Nil = None
+leaf_test (Leaf t) = Some t
+leaf_test (Join o) = None
+leaf_test Repeat = None
+
+-- the number that stands for a shape's test in records: 0 where it has none
 abbrev pub test_of : Shape → ℕ
-test_of Void = 0
-test_of Nil = 0
-test_of (Leaf t) = t
-test_of (Join o) = 0
-test_of Repeat = 0
+test_of x = unwrap_or (leaf_test x) 0
 
 -- each test is at most 255
 abbrev pub TestsFit : List Node → Type 0
@@ -66,11 +71,7 @@ TestsFit ns = (i : ℕ) → i < length ns → test_of (shape_at ns i) ≤ 255
 
 -- whether a node of this shape has a test at or above a bound
 abbrev pub test_from : ℕ → Shape → Bool
-test_from bound Void = false
-test_from bound Nil = false
-test_from bound (Leaf t) = nat_le bound t
-test_from bound (Join o) = false
-test_from bound Repeat = false
+test_from bound x = elim (leaf_test x) [ None ↦ false | Some t ↦ nat_le bound t ]
 
 -- the first node whose test is at or above a bound, if any
 abbrev pub FirstTest : ℕ → List Node → Option ℕ → Type 0

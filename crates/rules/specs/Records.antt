@@ -1,5 +1,5 @@
 -- Records: nodes as plain numbers, which lists of them are taken and where the others are refused.
-use Rattle.std.specs.Prelude.{◌≡◌, ℕ, ◌-◌, ◌<◌, ◌≤◌, Bool, true, false, List, [], ◌∷◌, ◌++◌, map, length, get_or, Some, None, Ok, Err, Option, Result, slice_index_or}
+use Rattle.std.specs.Prelude.{◌≡◌, ℕ, ◌-◌, ◌<◌, ◌≤◌, List, [], ◌∷◌, ◌++◌, map, length, get_or, Some, None, Ok, Err, Option, Result, slice_index_or}
 use Rattle.refusals.specs.declared.Fault.{Fault}
 use Rattle.refusals.specs.declared.Refusal.TheVariants.{BadNodes}
 use Rattle.rules.specs.declared.node.Join.TheVariants.{Chain, Choice}
@@ -76,10 +76,10 @@ abbrev pub NodeOf : List Node → Record → Option Node → Type 0
 NodeOf ns r None = Good (size_at ns) (length ns) r → ⊥
 NodeOf ns r (Some n) = Tells r n.shape × (size_for (size_at ns) n.shape (length ns) ≡ Some n.size) × (r.size ≡ n.size)
 
--- what adding a record's node to a list does: where the record is good it stands at the end, and else the list stays
-abbrev pub Adds : List Node → Record → Bool → List Node → Type 0
-Adds ns r true new = (g : Good (size_at ns) (length ns) r) × (new ≡ ns ++ node g.shape r.size ∷ [])
-Adds ns r false new = (Good (size_at ns) (length ns) r → ⊥) × (new ≡ ns)
+-- what adding a record's node to a list answers, and the list then: where the record is good its node stands at the end, and else the list stays
+abbrev pub Adds : List Node → Record → Result (Unit {0}) Fault → List Node → Type 0
+Adds ns r (Ok done) new = (g : Good (size_at ns) (length ns) r) × (new ≡ ns ++ node g.shape r.size ∷ [])
+Adds ns r (Err f) new = (f ≡ record { refusal = BadNodes; place = length ns }) × (Good (size_at ns) (length ns) r → ⊥) × (new ≡ ns)
 
 -- taking has one answer
 abbrev pub OneAnswer : Type 0

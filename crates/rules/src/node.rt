@@ -1,4 +1,6 @@
 // Nodes: the parts of a rule.
+ghost use Rattle.std.specs.Prelude.{◌≡◌};
+ghost use Rattle.rules.specs.Nodes.{leaf_test};
 
 // The two ways of joining a left and a right child.
 #[derive(Clone, Copy, Debug, PartialEq, Eq)]
@@ -39,4 +41,16 @@ pub enum Form {
     Leaf(u8),
     Join(Join, usize, usize),
     Repeat(usize),
+}
+
+impl Shape {
+    // The test of a leaf; none of every other shape.
+    pub fn test(self) -> Option<u8>
+        ensures { result ≡ leaf_test self }
+    {
+        match self {
+            Shape::Leaf(test) => Some(test),
+            Shape::Void | Shape::Nil | Shape::Join(_) | Shape::Repeat => None,
+        }
+    }
 }

@@ -1,6 +1,5 @@
 // Records: nodes as plain numbers, for giving a list out and for taking one from outside.
 ghost use Rattle.std.specs.Prelude.{◌≡◌, false, []};
-ghost use Rattle.refusals.specs.declared.Refusal.TheVariants.{BadNodes};
 ghost use Rattle.rules.specs.Records.{ComesBack, OneAnswer, Takes, ToldBy, record_of};
 
 use crate::node::{Join, Node, Shape};
@@ -8,6 +7,7 @@ use crate::rule::{MAX_NODES, Rule};
 use refusals::{Fault, Refusal};
 
 // A node as plain numbers, any at all: the code of its shape, its test and its size.
+// The code is a number and no enum, since a list from outside may have any.
 #[derive(Clone, Copy, Debug, PartialEq, Eq)]
 pub struct Record {
     pub code: u32,
@@ -15,19 +15,9 @@ pub struct Record {
     pub size: u32,
 }
 
-// The refusal of a node list.
-fn bad_nodes(place: usize) -> Fault
-    ensures refusal { result.refusal ≡ BadNodes }
-    ensures place { result.place ≡ place }
-{
-    Fault {
-        refusal: Refusal::BadNodes,
-        place,
-    }
-}
-
 impl Record {
     // The shape that the code and the test tell, if any.
+    // No TryFrom: that would be public, with an error that nobody reads, and this has one caller.
     pub(crate) fn shape(self) -> Option<Shape>
         ensures { ToldBy self result }
     {
@@ -43,15 +33,15 @@ impl Record {
     }
 }
 
-impl Node {
-    // The node as plain numbers.
-    pub fn record(self) -> Record
-        ensures { result ≡ record_of self }
-    {
-        let (code, test) = match self.shape {
+// A node as plain numbers.
+impl From<Node> for Record {
+    ghost from_gives = { λ n r. r ≡ record_of n };
+
+    fn from(node: Node) -> Record {
+        let (code, test) = match node.shape {
             Shape::Void => (0, 0),
             Shape::Nil => (1, 0),
-            Shape::Leaf(test) => (2, test as u32),
+            Shape::Leaf(test) => (2, u32::from(test)),
             Shape::Join(Join::Chain) => (3, 0),
             Shape::Join(Join::Choice) => (4, 0),
             Shape::Repeat => (5, 0),
@@ -59,7 +49,7 @@ impl Node {
         Record {
             code,
             test,
-            size: self.size as u32,
+            size: u32::from(node.size),
         }
     }
 }
@@ -70,19 +60,13 @@ impl Rule {
         ensures { Takes records.now self.old.nodes.items result self.new.nodes.items }
     {
         if records.len() > MAX_NODES {
-            return Err(bad_nodes(MAX_NODES));
+            return Err(Refusal::BadNodes.at(MAX_NODES));
         }
         self.draft.clear();
-        for (i, given) in records.iter().enumerate() {
-            if !self.draft.add(*given) {
-                return Err(bad_nodes(i));
-            }
+        for given in records {
+            self.draft.add(*given)?;
         }
-        if self.adopt() {
-            Ok(())
-        } else {
-            Err(bad_nodes(records.len()))
-        }
+        self.adopt()
     }
 
     // Takes a node list from outside in the place of the rule's, or says where it is bad and leaves the rule's list as it was. The draft is empty afterwards.

@@ -1,11 +1,13 @@
 // A rule: a well-formed list of nodes, with room to draft the next one.
-ghost use Rattle.std.specs.Prelude.{◌≡◌, ◌<◌, ◌≤◌, true, false, not, [], ◌∷◌, length, IfOk, if◌then◌else◌, vec_len, vec_capacity, Decides, nat_le};
+ghost use Rattle.std.specs.Prelude.{◌≡◌, ◌<◌, ◌≤◌, true, false, not, [], ◌∷◌, ◌++◌, length, Some, None, is_ok, IfOk, IfErr, IfSome, if◌then◌else◌, vec_len, vec_capacity, Decides, nat_le, nat_lt};
+ghost use Rattle.refusals.specs.declared.Refusal.TheVariants.{BadNodes};
 ghost use Rattle.rules.specs.Nodes.{FirstTest, Fitting, test_from, test_of, TestsFit, Rooted, WellFormed, form_at, grown, node, size_for, joined_size, size_at};
 ghost use Rattle.rules.specs.Records.{Adds, NodeOf};
 ghost use Rattle.rules.specs.declared.node.Shape.TheVariants.{Void};
 
 use crate::node::{Form, Node, Shape};
 use crate::record::Record;
+use refusals::{Fault, Refusal};
 use std::alloc::{AllocError, Global};
 use std::mem;
 
@@ -13,6 +15,7 @@ use std::mem;
 pub const MAX_NODES: usize = 512;
 
 // A list of nodes that is being built, each over the last ones; past the limit it only notes that there were more.
+// The flag stands beside the nodes, since their room must be kept when there are too many: only makers allocate.
 #[derive(Drop)]
 pub struct Draft {
     nodes: Vec<Node>,
@@ -32,81 +35,68 @@ pub struct Rule {
     ghost room: { 512 ≤ vec_capacity nodes },
 }
 
-// The size that a node of this shape has at the end of the list; none where its children are not there.
-fn size_for(nodes: &[Node], shape: Shape) -> Option<u16>
-    requires fitting { Fitting nodes.now }
-    requires few { length nodes.now < 512 }
-    ensures size { result ≡ size_for (size_at nodes.now) shape (length nodes.now) }
-    ensures test { test_of shape ≤ 255 }
-{
-    match shape {
-        Shape::Void | Shape::Nil => Some(1),
-        Shape::Leaf(_test) => Some(1),
-        Shape::Join(_) => joined_size(nodes),
-        Shape::Repeat => {
-            if nodes.len() == 0 {
-                return None;
-            }
-            Some(1 + nodes[nodes.len() - 1].size)
-        }
-    }
-}
-
-// The size of a chain or a choice over the last two parts of the list.
-fn joined_size(nodes: &[Node]) -> Option<u16>
-    requires fitting { Fitting nodes.now }
-    requires few { length nodes.now < 512 }
-    ensures { result ≡ joined_size (size_at nodes.now) (length nodes.now) }
-{
-    let n = nodes.len();
-    if n == 0 {
-        return None;
-    }
-    let right = nodes[n - 1].size;
-    if right as usize >= n {
-        return None;
-    }
-    let left = nodes[n - 1 - right as usize].size;
-    Some(1 + (left + right))
-}
-
 // Whether a node of this shape has a test at or above a bound.
 fn has_test_from(shape: Shape, bound: usize) -> bool
     ensures { result ≡ test_from bound shape }
 {
-    match shape {
-        Shape::Leaf(test) => test as usize >= bound,
-        Shape::Void | Shape::Nil | Shape::Repeat => false,
-        Shape::Join(_) => false,
-    }
-}
-
-// The node that a record tells at the end of the list, if the record is good there.
-fn node_of(nodes: &[Node], given: Record) -> Option<Node>
-    requires fitting { Fitting nodes.now }
-    requires few { length nodes.now < 512 }
-    ensures { NodeOf nodes.now given result }
-{
-    let shape = given.shape()?;
-    let size = size_for(nodes, shape)?;
-    if given.size == size as u32 {
-        Some(Node { shape, size })
-    } else {
-        None
-    }
-}
-
-// Whether the last node is the root of all.
-fn is_rooted(nodes: &[Node]) -> bool
-    ensures { Decides result (Rooted nodes.now) }
-{
-    match nodes {
-        [] => false,
-        [.., root] => root.size as usize == nodes.len(),
-    }
+    shape.test().is_some_and(|test| test as usize >= bound)
 }
 
 impl Draft {
+    // The size of node i, if there is one.
+    fn size_of(&self, i: usize) -> Option<u16>
+        ensures size { result ≡ (if nat_lt i (length self.now.nodes.items) then Some (size_at self.now.nodes.items i) else None) }
+        ensures few { IfSome result (λ s. s ≤ 512) }
+    {
+        Some(self.nodes.get(i)?.size)
+    }
+
+    // The size that a node of this shape has at the end; none where its children are not there.
+    fn size_for(&self, shape: Shape) -> Option<u16>
+        ensures size { result ≡ size_for (size_at self.now.nodes.items) shape (length self.now.nodes.items) }
+        ensures test { test_of shape ≤ 255 }
+    {
+        match shape {
+            Shape::Void | Shape::Nil => Some(1),
+            Shape::Leaf(_test) => Some(1),
+            Shape::Join(_) => self.joined_size(),
+            Shape::Repeat => Some(1 + self.size_of(self.nodes.len().checked_sub(1)?)?),
+        }
+    }
+
+    // The size of a chain or a choice over the last two parts: the left one ends where the right one begins.
+    fn joined_size(&self) -> Option<u16>
+        ensures { result ≡ joined_size (size_at self.now.nodes.items) (length self.now.nodes.items) }
+    {
+        let right_end = self.nodes.len().checked_sub(1)?;
+        let right = self.size_of(right_end)?;
+        let left = self.size_of(right_end.checked_sub(right as usize)?)?;
+        Some(1 + (left + right))
+    }
+
+    // The node that a record tells at the end, if the record is good there.
+    fn node_of(&self, given: Record) -> Option<Node>
+        ensures { NodeOf self.now.nodes.items given result }
+    {
+        let shape = given.shape()?;
+        let size = self.size_for(shape)?;
+        if given.size == u32::from(size) {
+            Some(Node { shape, size })
+        } else {
+            None
+        }
+    }
+
+    // Whether the last node is the root of all.
+    fn is_rooted(&self) -> bool
+        ensures { Decides result (Rooted self.now.nodes.items) }
+    {
+        match self.nodes.as_slice() {
+            [] => false,
+            [.., root] => root.size as usize == self.nodes.len(),
+        }
+    }
+
     // No node, with room for all.
     fn new(heap: Global) -> Result<Draft, AllocError>
         ensures { IfOk result (λ x. (x.nodes.items ≡ []) × (x.over ≡ false)) }
@@ -126,6 +116,17 @@ impl Draft {
         self.over = false;
     }
 
+    // Puts a node at the end, of the size that its shape asks there.
+    fn append(&mut self, node: Node)
+        requires room { vec_len self.old.nodes < 512 }
+        requires fits { Some node.size ≡ size_for (size_at self.old.nodes.items) node.shape (length self.old.nodes.items) }
+        requires test { test_of node.shape ≤ 255 }
+        ensures items { self.new.nodes.items ≡ self.old.nodes.items ++ node ∷ [] }
+        ensures over { self.new.over ≡ self.old.over }
+    {
+        self.nodes.push_reserved(node);
+    }
+
     // Adds a node of this shape over the last ones, if there is room and its children are there.
     pub fn push(&mut self, shape: Shape)
         ensures items { self.new.nodes.items ≡ (if nat_le 512 (vec_len self.old.nodes) then self.old.nodes.items else grown self.old.nodes.items shape) }
@@ -133,8 +134,8 @@ impl Draft {
     {
         if self.nodes.len() >= MAX_NODES {
             self.over = true;
-        } else if let Some(size) = size_for(&self.nodes, shape) {
-            self.nodes.push_reserved(Node { shape, size });
+        } else if let Some(size) = self.size_for(shape) {
+            self.append(Node { shape, size });
         }
     }
 
@@ -145,17 +146,17 @@ impl Draft {
         !self.over
     }
 
-    // Adds the node that a record tells, if the record is good after the nodes so far; says whether.
-    pub(crate) fn add(&mut self, given: Record) -> bool
+    // Adds the node that a record tells, or refuses the record where it is not good after the nodes so far.
+    pub(crate) fn add(&mut self, given: Record) -> Result<(), Fault>
         requires { vec_len self.old.nodes < 512 }
         ensures nodes { Adds self.old.nodes.items given result self.new.nodes.items }
         ensures over { self.new.over ≡ self.old.over }
     {
-        let Some(node) = node_of(&self.nodes, given) else {
-            return false;
+        let Some(node) = self.node_of(given) else {
+            return Err(Refusal::BadNodes.at(self.nodes.len()));
         };
-        self.nodes.push_reserved(node);
-        true
+        self.append(node);
+        Ok(())
     }
 }
 
@@ -203,25 +204,23 @@ impl Rule {
     pub fn first_test(&self, bound: usize) -> Option<usize>
         ensures { FirstTest bound self.now.nodes.items result }
     {
-        for (i, node) in self.nodes().iter().enumerate() {
-            if has_test_from(node.shape, bound) {
-                return Some(i);
-            }
-        }
-        None
+        self.nodes()
+            .iter()
+            .position(|node| has_test_from(node.shape, bound))
     }
 
-    // Puts the draft's list in the place of the rule's, if it is one whole part and none of it was left out; says whether.
-    pub fn adopt(&mut self) -> bool
-        ensures whether { Decides result ((self.old.draft.over ≡ false) × Rooted self.old.draft.nodes.items) }
-        ensures nodes { self.new.nodes.items ≡ (if result then self.old.draft.nodes.items else self.old.nodes.items) }
-        ensures draft { self.new.draft.nodes.items ≡ (if result then self.old.nodes.items else self.old.draft.nodes.items) }
+    // Puts the draft's list in the place of the rule's, or refuses it where it is not one whole part or some of it was left out.
+    pub fn adopt(&mut self) -> Result<(), Fault>
+        ensures whether { Decides (is_ok result) ((self.old.draft.over ≡ false) × Rooted self.old.draft.nodes.items) }
+        ensures fault { IfErr result (λ f. f ≡ record { refusal = BadNodes; place = length self.old.draft.nodes.items }) }
+        ensures nodes { self.new.nodes.items ≡ (if is_ok result then self.old.draft.nodes.items else self.old.nodes.items) }
+        ensures draft { self.new.draft.nodes.items ≡ (if is_ok result then self.old.nodes.items else self.old.draft.nodes.items) }
         ensures over { self.new.draft.over ≡ self.old.draft.over }
     {
-        if self.draft.over || !is_rooted(&self.draft.nodes) {
-            return false;
+        if self.draft.over || !self.draft.is_rooted() {
+            return Err(Refusal::BadNodes.at(self.draft.nodes.len()));
         }
         mem::swap(&mut self.nodes, &mut self.draft.nodes);
-        true
+        Ok(())
     }
 }

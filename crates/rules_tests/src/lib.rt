@@ -3,6 +3,7 @@
 
 #[cfg(test)]
 mod tests {
+    use refusals::Refusal;
     use rules::{Record, Rule};
     use std::alloc::Global;
     use std::process::Abort;
@@ -49,12 +50,12 @@ mod tests {
 
     // Whether the rule's nodes are those of these records.
     fn holds(rule: &Rule, records: &[Record]) -> bool {
-        let mut same = rule.nodes().len() == records.len();
-        for (node, record) in rule.nodes().iter().zip(records) {
-            let own = node.record();
-            same &= own.code == record.code && own.test == record.test && own.size == record.size;
-        }
-        same
+        rule.nodes().len() == records.len()
+            && rule
+                .nodes()
+                .iter()
+                .zip(records)
+                .all(|(node, record)| Record::from(*node) == *record)
     }
 
     // Whether the rule takes the records, and then holds their nodes.
@@ -64,10 +65,7 @@ mod tests {
 
     // Whether the rule refuses the records at this place, by the refusal of node lists, and leaves nothing in its draft.
     fn refused(rule: &mut Rule, records: &[Record], place: usize) -> bool {
-        match rule.take(records) {
-            Ok(()) => false,
-            Err(fault) => fault.refusal.number() == 19 && fault.place == place && !rule.adopt(),
-        }
+        rule.take(records) == Err(Refusal::BadNodes.at(place)) && rule.adopt().is_err()
     }
 
     // Lists of one record: each shape, and numbers that no node has.
@@ -185,7 +183,7 @@ mod tests {
         assert!(rt; taken(&mut from, &SAMPLE));
         let mut list = Vec::new(rt.alloc());
         for node in from.nodes() {
-            list.push(node.record())?;
+            list.push(Record::from(*node))?;
         }
         let mut to = Rule::new(rt.alloc())?;
         assert!(rt; holds(&to, &[record(0, 0, 1)]));

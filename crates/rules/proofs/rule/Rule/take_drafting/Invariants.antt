@@ -3,10 +3,10 @@ use Rattle.std.proofs.Common.{◌≡◌, ℕ, ◌<◌, ◌≤◌, false, map, le
 use Rattle.rules.specs.Records.{record_of, GoodAt}
 use Rattle.rules.proofs.rule.Rule.take_drafting.Given as goal
 
-abbrev pub invariant-loop-i : goal.invariant-loop-i
-invariant-loop-i l =
-    (map record_of (vec_items l.self.draft.nodes) ≡ take l.i l.records)
-    × ((k : ℕ) → k < l.i → GoodAt l.records k)
+abbrev pub invariant-loop-given : goal.invariant-loop-given
+invariant-loop-given l =
+    (map record_of (vec_items l.self.draft.nodes) ≡ take l.given-index l.records)
+    × ((k : ℕ) → k < l.given-index → GoodAt l.records k)
     × (l.self.draft.over ≡ false)
     × (length l.records ≤ 512)
-    × (vec_items l.self.nodes ≡ vec_items l.initial.self.nodes)
+    × (vec_items l.self.nodes ≡ vec_items l.fn.self.nodes)
