@@ -1,10 +1,11 @@
 // The tables of short and of far: how few symbols a node needs, and how few are needed from a node to the end.
-ghost use Rattle.std.specs.Prelude.{◌≡◌, ℕ, ◌+◌, ◌^◌, ◌<◌, ◌≤◌, false, length, get_or, Some, None, vec_len, vec_capacity, slice_index, slice_index_or};
+ghost use Rattle.std.specs.Prelude.{◌≡◌, ℕ, ◌+◌, ◌^◌, ◌<◌, ◌≤◌, length, Some, None, vec_len, vec_capacity, slice_index, slice_index_or};
 ghost use Rattle.rules.specs.Nodes.{form_at, size_at};
 ghost use Rattle.lockstep.specs.Next.{NextTable};
 ghost use Rattle.lockstep.specs.Far.{sum, smaller, short_of, IsShort, AtMost};
 
 use rules::{Form, Join, Rule};
+use symbols::Kind;
 
 // The sum, none if either is none.
 fn add(a: Option<u32>, b: Option<u32>) -> Option<u32>
@@ -12,10 +13,7 @@ fn add(a: Option<u32>, b: Option<u32>) -> Option<u32>
     requires b_low { AtMost (2 ^ 20) b }
     ensures { result ≡ sum a b }
 {
-    match (a, b) {
-        (Some(x), Some(y)) => Some(x + y),
-        _ => None,
-    }
+    Some(a? + b?)
 }
 
 // The smaller one of those that are there.
@@ -23,51 +21,46 @@ fn least(a: Option<u32>, b: Option<u32>) -> Option<u32>
     ensures { result ≡ smaller a b }
 {
     match (a, b) {
-        (None, _) => b,
-        (_, None) => a,
-        (Some(x), Some(y)) => Some(if x <= y { x } else { y }),
+        (Some(x), Some(y)) => Some(x.min(y)),
+        _ => a.or(b),
     }
 }
 
 // Short of p, from short of the nodes before it.
-fn short_at(short: &[Option<u32>], rule: &Rule, possible: &[bool], p: usize) -> Option<u32>
+fn short_at<K: Kind>(short: &[Option<u32>], rule: &Rule, kind: &K, p: usize) -> Option<u32>
     requires within { p < length rule.now.nodes.items }
-    requires flags { length possible.now ≡ 256 }
     requires before { length short.now ≡ p }
     requires low { (q : ℕ) → q < p → AtMost (size_at rule.now.nodes.items q) (slice_index_or short.now q None) }
-    ensures value { result ≡ short_of (λ t. get_or possible.now t false) (form_at rule.now.nodes.items p) (λ q. get_or short.now q None) }
+    ensures value { result ≡ short_of (K.Kind.can_meet kind.now) (form_at rule.now.nodes.items p) (λ q. slice_index_or short.now q None) }
     ensures low { AtMost (size_at rule.now.nodes.items p) result }
 {
     match rule.form(p) {
         Form::Void => None,
         Form::Nil | Form::Repeat(_) => Some(0),
-        Form::Leaf(test) => if possible[test as usize] {
-            Some(1)
-        } else {
-            None
-        },
+        Form::Leaf(test) => kind.possible(test).then_some(1),
         Form::Join(Join::Chain, left, right) => add(short[left], short[right]),
         Form::Join(Join::Choice, left, right) => least(short[left], short[right]),
     }
 }
 
 // Fills the table of short, from the first node on.
-pub(crate) fn fill_short(short: &mut Vec<Option<u32>>, rule: &Rule, possible: &[bool])
-    requires room { 512 ≤ vec_capacity short.old }
-    requires flags { length possible.now ≡ 256 }
-    ensures value { IsShort (λ t. get_or possible.now t false) rule.now.nodes.items (λ q. get_or short.new.items q None) }
+// p is a node's number, by which the rule and the table are read, so no list is walked along.
+pub(crate) fn fill_short<K: Kind>(short: &mut Vec<Option<u32>>, rule: &Rule, kind: &K)
+    requires { 512 ≤ vec_capacity short.old }
+    ensures value { IsShort (K.Kind.can_meet kind.now) rule.now.nodes.items (λ q. slice_index_or short.new.items q None) }
     ensures low { (q : ℕ) → q < length rule.now.nodes.items → AtMost 512 (slice_index_or short.new.items q None) }
     ensures len { vec_len short.new ≡ length rule.now.nodes.items }
     ensures capacity { vec_capacity short.new ≡ vec_capacity short.old }
 {
     short.clear();
     for p in 0..rule.nodes().len() {
-        let own = short_at(short, rule, possible, p);
+        let own = short_at(short, rule, kind, p);
         short.push_reserved(own);
     }
 }
 
 // Fills the table of far, from the end mark down.
+// p is a node's number: far of what follows it is read from anywhere behind.
 pub(crate) fn fill_far(far: &mut [Option<u32>], rule: &Rule, next: &[u16], short: &[Option<u32>])
     requires next { NextTable rule.now.nodes.items next.now }
     requires low { (q : ℕ) → q < length rule.now.nodes.items → AtMost 512 (slice_index_or short.now q None) }

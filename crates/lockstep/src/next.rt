@@ -26,6 +26,7 @@ fn hand_down(next: &mut [u16], rule: &Rule, p: usize)
 }
 
 // Fills the table of next, from the root down.
+// p is a node's number: what follows it is handed to its children, wherever they stand.
 pub(crate) fn fill_next(next: &mut [u16], rule: &Rule)
     requires { length next.old ≡ length rule.now.nodes.items }
     ensures { IsNext rule.now.nodes.items (λ q. slice_index next.new q) }
