@@ -61,8 +61,7 @@ fn read_drafting(names: &[Entry], text: &[u8], rule: &mut Rule) -> Result<(), Fa
     let last = words::next_word(text.len(), rest)?;
     check_end(last, text.len(), &rule.draft)?;
     // The draft is a whole rule, and none of it was left out, so it is adopted.
-    rule.adopt();
-    Ok(())
+    rule.adopt()
 }
 
 // Reads a text, with these names, into the rule, or says its first fault and leaves the rule's list as it was. The draft is empty afterwards.

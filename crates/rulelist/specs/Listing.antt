@@ -8,7 +8,7 @@ use Rattle.rules.specs.declared.node.Join.TheVariants.{Chain, Choice}
 use Rattle.rules.specs.declared.node.Node.{Node}
 use Rattle.rules.specs.declared.node.Shape.{Shape}
 use Rattle.rules.specs.declared.node.Shape.TheVariants.{Void, Nil, Leaf, Join, Repeat}
-use Rattle.rules.specs.Nodes.{no_node}
+use Rattle.rules.specs.Nodes.{no_node, leaf_test}
 use Rattle.rule_text.specs.Reading.{Taken, Refused}
 use Rattle.symbols.specs.Bytes.{every_byte, test_at, is_every}
 use Rattle.symbols.specs.Turned.{turned_at}
@@ -34,20 +34,12 @@ abbrev pub field : Option ℕ → List ℕ
 field None = codes "-"
 field (Some n) = decimal n
 
--- the test of a leaf; other nodes have none
-abbrev pub test_of : Shape → Option ℕ
-test_of Void = None
-test_of Nil = None
-test_of (Leaf t) = Some t
-test_of (Join o) = None
-test_of Repeat = None
-
 abbrev pub header : List ℕ
 header = line (codes "node" ∷ codes "kind" ∷ codes "test" ∷ codes "size" ∷ codes "next" ∷ codes "far" ∷ [])
 
 -- the line of node i
 abbrev pub row : ℕ → Node → ℕ → Option ℕ → List ℕ
-row i n next far = line (decimal i ∷ kind_word n.shape ∷ field (test_of n.shape) ∷ decimal n.size ∷ decimal next ∷ field far ∷ [])
+row i n next far = line (decimal i ∷ kind_word n.shape ∷ field (leaf_test n.shape) ∷ decimal n.size ∷ decimal next ∷ field far ∷ [])
 
 -- the lines of the first k nodes
 abbrev pub rows : List Node → List ℕ → List (Option ℕ) → ℕ → List ℕ

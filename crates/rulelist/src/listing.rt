@@ -1,6 +1,6 @@
 // The listing of a rule's text: a line for each node, or the line of its fault.
 ghost use Rattle.std.specs.Prelude.{◌≡◌, ◌+◌, [], ◌∷◌, ◌++◌, length, IfOk, Some, string_bytes};
-ghost use Rattle.rulelist.specs.Listing.{letter_tests, kind_word, field, test_of, row, rows, listing as listing_of, fault_line, Lists, Prints};
+ghost use Rattle.rulelist.specs.Listing.{letter_tests, kind_word, field, row, listing as listing_of, fault_line, Lists, Prints};
 
 use lockstep::Tables;
 use refusals::Fault;
@@ -12,9 +12,9 @@ use symbols::{ByteKind, Turned};
 
 // The names of the program: any, a, b.
 const NAMES: [Entry; 3] = [
-    [97, 110, 121, 0, 0, 0, 0, 0, 0, 0, 0, 0, 0, 0, 0, 0],
-    [97, 0, 0, 0, 0, 0, 0, 0, 0, 0, 0, 0, 0, 0, 0, 0],
-    [98, 0, 0, 0, 0, 0, 0, 0, 0, 0, 0, 0, 0, 0, 0, 0],
+    *b"any\0\0\0\0\0\0\0\0\0\0\0\0\0",
+    *b"a\0\0\0\0\0\0\0\0\0\0\0\0\0\0\0",
+    *b"b\0\0\0\0\0\0\0\0\0\0\0\0\0\0\0",
 ];
 
 // A field of a line: a number, or `-` where there is none.
@@ -46,41 +46,34 @@ fn kind_word(shape: Shape) -> &'static str
     }
 }
 
-// The test of a leaf; other nodes have none.
-fn test_of(shape: Shape) -> Option<u32>
-    ensures { result ≡ test_of shape }
-{
-    match shape {
-        Shape::Leaf(test) => Some(u32::from(test)),
-        _ => None,
-    }
-}
-
-// The line of node i.
-fn row_text(
-    heap: Global,
-    i: usize,
+// The line of a node.
+#[derive(Clone, Copy)]
+struct Row {
+    number: usize,
     node: Node,
     next: u16,
     far: Option<u32>,
-) -> Result<String, AllocError>
-    ensures { IfOk result (λ s. string_bytes s ≡ row i node next far) }
-{
-    let kind = kind_word(node.shape);
-    let test = Field(test_of(node.shape));
-    let size = node.size;
-    let far = Field(far);
-    format!(in heap; "{i} {kind} {test} {size} {next} {far}\n")
+}
+
+impl fmt::Display for Row {
+    ghost output = { λ x. Some (row x.number x.node x.next x.far) };
+
+    fn fmt<W: fmt::Write>(&self, f: &mut fmt::Formatter<W>) -> fmt::Result {
+        let number = self.number;
+        let kind = kind_word(self.node.shape);
+        let test = Field(self.node.shape.test().map(u32::from));
+        let size = self.node.size;
+        let next = self.next;
+        let far = Field(self.far);
+        writeln!(f, "{number} {kind} {test} {size} {next} {far}")
+    }
 }
 
 // The line of a fault.
 fn fault_text(heap: Global, fault: Fault) -> Result<String, AllocError>
     ensures { IfOk result (λ s. string_bytes s ≡ fault_line fault) }
 {
-    let number = fault.refusal.number();
-    let layer = fault.refusal.layer().name();
-    let place = fault.place;
-    format!(in heap; "fault {number} {layer} {place}\n")
+    format!(in heap; "fault {fault}\n")
 }
 
 // The header, and the line of each node.
@@ -95,9 +88,14 @@ fn table_text(
     ensures { IfOk result (λ s. string_bytes s ≡ listing_of nodes.now next.now far.now) }
 {
     let mut text = String::from_str(heap, "node kind test size next far\n")?;
-    for (i, node) in nodes.iter().enumerate() {
-        let row = row_text(heap, i, *node, next[i], far[i])?;
-        text.push_str(row.as_str())?;
+    for (number, node) in nodes.iter().enumerate() {
+        let row = Row {
+            number,
+            node: *node,
+            next: next[number],
+            far: far[number],
+        };
+        write!(text, "{row}")?;
     }
     Ok(text)
 }
@@ -110,10 +108,7 @@ fn letters(heap: Global) -> Result<Turned<ByteKind>, AllocError>
     // Neither is refused, and three tests can be turned.
     let _ = bytes.add(b'a', b'a');
     let _ = bytes.add(b'b', b'b');
-    match Turned::over(bytes) {
-        Ok(kind) => Ok(kind),
-        Err(_) => unreachable(),
-    }
+    Ok(Turned::over(bytes).unwrap())
 }
 
 // The listing of a rule.

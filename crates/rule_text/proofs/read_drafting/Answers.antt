@@ -1,7 +1,7 @@
 -- A text is taken, or refused for the first reason that applies.
-use Rattle.std.proofs.Common.{◌≡◌, ℕ, ◌≤◌, List, [], length, sym, refl, ap, ◌∙◌, subst, inl, arith}
+use Rattle.std.proofs.Common.{◌≡◌, ℕ, ◌≤◌, true, List, [], length, Ok, Err, Result, is_ok, sym, refl, ap, ◌∙◌, subst, inl, arith}
 use Rattle.std.proofs.lemmas.Result.{err_from_is_err_and}
-use Rattle.std.proofs.lemmas.Bool.{cond-true}
+use Rattle.std.proofs.lemmas.Bool.{cond-true, true≢false}
 use Rattle.refusals.specs.declared.Fault.{Fault}
 use Rattle.refusals.specs.declared.Refusal.TheVariants.{BadNames}
 use Rattle.rules.specs.declared.node.Node.{Node}
@@ -48,6 +48,11 @@ returns-in_err-check_end c =
     let h = k.adds [] (inl (omega arith, c.clear.ensures.items, c.clear.ensures.over)) in
     rw (p.1, p.2) (refl, end_refused c.args.text.now c.in_ok-rest.rest.now c.in_ok-last.last _ c.in_ok-check_names.ensures c.in_ok-check_length.ensures k h c.in_ok-last.ensures.0 _ c.in_err-check_end.ensures)
 
+-- what is no refusal is the answer that says so
+accepted : (r : Result (Unit {0}) Fault) → is_ok r ≡ true → r ≡ Ok tt
+accepted (Ok done) h = refl
+accepted (Err f) h = absurd (true≢false (sym h))
+
 pub returns : goal.returns
 returns c =
     let text = c.args.text.now in
@@ -55,10 +60,11 @@ returns c =
     let h = k.adds [] (inl (omega arith, c.clear.ensures.items, c.clear.ensures.over)) in
     let e = c.in_ok-check_end.ensures in
     let n = not_over h e.1 in
-    let is = c.adopt.ensures.nodes ∙ cond-true _ _ _ (c.adopt.ensures.whether.1 (e.1, subst Rooted (sym n.1) (gives_rooted k.gives))) ∙ n.1 in
-    record {
+    let ok = c.adopt.ensures.whether.1 (e.1, subst Rooted (sym n.1) (gives_rooted k.gives)) in
+    let is = c.adopt.ensures.nodes ∙ cond-true _ _ _ ok ∙ n.1 in
+    rw (accepted c.adopt.result ok) (record {
       good = c.in_ok-check_names.ensures;
       short = c.in_ok-check_length.ensures;
       gives = subst (IsRule c.args.names.now (words_in text)) (sym is) (ends_rule text c.in_ok-rest.rest.now c.in_ok-last.last _ c.in_ok-check_names.ensures c.in_ok-check_length.ensures k h c.in_ok-last.ensures.0 e.0);
       few = subst (λ (ns : List Node). length ns ≤ 512) (sym is) n.0;
-    }
+    })
