@@ -88,6 +88,7 @@ fn table_text(
     ensures { IfOk result (λ s. string_bytes s ≡ listing_of nodes.now next.now far.now) }
 {
     let mut text = String::from_str(heap, "node kind test size next far\n")?;
+    // the line shows the node's number, and one list beside it reads better than two zips
     for (number, node) in nodes.iter().enumerate() {
         let row = Row {
             number,

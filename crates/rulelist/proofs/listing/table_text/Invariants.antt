@@ -3,5 +3,5 @@ use Rattle.std.proofs.Common.{◌≡◌, ◌++◌, string_bytes}
 use Rattle.rulelist.specs.Listing.{header, rows}
 use Rattle.rulelist.proofs.listing.table_text.Given as goal
 
-abbrev pub invariant-loop-i : goal.invariant-loop-i
-invariant-loop-i l = string_bytes l.text ≡ header ++ rows l.nodes l.next l.far l.i
+abbrev pub invariant-loop-number : goal.invariant-loop-number
+invariant-loop-number l = string_bytes l.text ≡ header ++ rows l.nodes l.next l.far l.number
