@@ -132,7 +132,7 @@ mod tests {
         assert!(rt; read(&names, b"a a", &mut rule).is_ok());
         for text in [b"a a a )", b"a a a c", b"a a a |"] {
             assert!(rt; read(&names, text, &mut rule).is_err());
-            assert!(rt; !rule.adopt());
+            assert!(rt; rule.adopt().is_err());
             assert!(rt; rule.nodes().len() == 3);
         }
         assert!(rt; read(&names, b"a", &mut rule).is_ok());

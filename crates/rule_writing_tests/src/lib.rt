@@ -32,16 +32,6 @@ mod tests {
     // What is in a byte that writing must leave as it was.
     const KEPT: u8 = 7;
 
-    fn same_nodes(a: &Rule, b: &Rule) -> bool {
-        let mut same = a.nodes().len() == b.nodes().len();
-        for (x, y) in a.nodes().iter().zip(b.nodes()) {
-            let x = x.record();
-            let y = y.record();
-            same &= x.code == y.code && x.test == y.test && x.size == y.size;
-        }
-        same
-    }
-
     fn reads(rt: &impl Abort, names: &[Entry], text: &[u8], rule: &mut Rule) {
         assert!(rt; read(names, text, rule).is_ok());
     }
@@ -56,7 +46,7 @@ mod tests {
     ) -> Result<(), Fail> {
         let mut back = Rule::new(heap)?;
         reads(rt, names, text, &mut back);
-        assert!(rt; same_nodes(rule, &back));
+        assert!(rt; rule.nodes() == back.nodes());
         Ok(())
     }
 
@@ -188,7 +178,7 @@ mod tests {
     fn repeated(heap: Global, rule: &Rule) -> Result<Vec<Record>, AllocError> {
         let mut list = Vec::new(heap);
         for node in rule.nodes() {
-            list.push(node.record())?;
+            list.push(Record::from(*node))?;
         }
         list.push(Record {
             code: 5,
