@@ -154,20 +154,11 @@ mod tests {
         Ok(())
     }
 
-    // This part of a text, so many times.
-    fn times(heap: Global, part: &[u8], count: usize) -> Result<Vec<u8>, AllocError> {
-        let mut text = Vec::new(heap);
-        for _ in 0..count {
-            text.extend_from_slice(part)?;
-        }
-        Ok(text)
-    }
-
     #[test]
     fn most_nodes(rt: HostRuntime) -> Result<(), Fail> {
         let heap = rt.alloc();
         let mut rule = Rule::new(heap)?;
-        let mut text = times(heap, b"a ", 255)?;
+        let mut text = b"a ".repeat(heap, 255)?;
         text.extend_from_slice(b"a*")?;
         reads(&rt, &NAMES, &text, &mut rule);
         assert!(rt; rule.nodes().len() == 512);
@@ -193,7 +184,7 @@ mod tests {
     fn longest_text(rt: HostRuntime) -> Result<(), Fail> {
         let heap = rt.alloc();
         let mut rule = Rule::new(heap)?;
-        let mut text = times(heap, b"abcdefghijklmnop ", 240)?;
+        let mut text = b"abcdefghijklmnop ".repeat(heap, 240)?;
         text.extend_from_slice(b"abcdefghijklmnop")?;
         reads(&rt, &LONG_NAMES, &text, &mut rule);
         writes(&rt, heap, &LONG_NAMES, &rule, &text)?;

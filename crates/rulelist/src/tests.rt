@@ -1,6 +1,6 @@
 // What the program prints: each fault that a text can meet, at its place, the order of checks, and the edges of the limits.
 use super::listing::listing;
-use std::alloc::{AllocError, Global};
+use std::alloc::Global;
 use std::process::Abort;
 use std::test::Fail;
 
@@ -8,15 +8,6 @@ fn prints(rt: &impl Abort, heap: Global, text: &[u8], expected: &str) -> Result<
     let output = listing(heap, text)?;
     assert!(rt; output.as_str() == expected);
     Ok(())
-}
-
-// This part of a text, so many times.
-fn times(heap: Global, part: &[u8], count: usize) -> Result<Vec<u8>, AllocError> {
-    let mut text = Vec::new(heap);
-    for _ in 0..count {
-        text.extend_from_slice(part)?;
-    }
-    Ok(text)
 }
 
 #[test]
@@ -121,25 +112,25 @@ fn long_texts(rt: HostRuntime) -> Result<(), Fail> {
     prints(
         &rt,
         heap,
-        &times(heap, b" ", 4096)?,
+        &b" ".repeat(heap, 4096)?,
         "fault 13 grammar 4096\n",
     )?;
     prints(
         &rt,
         heap,
-        &times(heap, b" ", 4097)?,
+        &b" ".repeat(heap, 4097)?,
         "fault 17 words 4096\n",
     )?;
     prints(
         &rt,
         heap,
-        &times(heap, b"\xff", 9000)?,
+        &b"\xff".repeat(heap, 9000)?,
         "fault 17 words 4096\n",
     )?;
     prints(
         &rt,
         heap,
-        &times(heap, b"(", 4096)?,
+        &b"(".repeat(heap, 4096)?,
         "fault 14 grammar 16\n",
     )
 }
@@ -147,7 +138,7 @@ fn long_texts(rt: HostRuntime) -> Result<(), Fail> {
 #[test]
 fn many_nodes(rt: HostRuntime) -> Result<(), Fail> {
     let heap = rt.alloc();
-    let mut text = times(heap, b"a ", 256)?;
+    let mut text = b"a ".repeat(heap, 256)?;
     assert!(rt;
         listing(heap, &text)?
             .as_str()
@@ -157,7 +148,7 @@ fn many_nodes(rt: HostRuntime) -> Result<(), Fail> {
     prints(&rt, heap, &text, "fault 16 nodes 513\n")?;
     text.extend_from_slice(b" 9")?;
     prints(&rt, heap, &text, "fault 12 words 514\n")?;
-    let mut text = times(heap, b"a ", 255)?;
+    let mut text = b"a ".repeat(heap, 255)?;
     text.extend_from_slice(b"a*")?;
     assert!(rt;
         listing(heap, &text)?
@@ -171,9 +162,9 @@ fn many_nodes(rt: HostRuntime) -> Result<(), Fail> {
 #[test]
 fn deep_brackets(rt: HostRuntime) -> Result<(), Fail> {
     let heap = rt.alloc();
-    let mut text = times(heap, b"(", 16)?;
+    let mut text = b"(".repeat(heap, 16)?;
     text.extend_from_slice(b"a")?;
-    text.extend_from_slice(&times(heap, b")", 16)?)?;
+    text.extend_from_slice(&b")".repeat(heap, 16)?)?;
     prints(
         &rt,
         heap,

@@ -141,10 +141,7 @@ mod tests {
 
     // The leaves first, and then the chains: each chain's right child is the chain before it.
     fn right_deep(heap: Global) -> Result<Vec<Record>, Fail> {
-        let mut list = Vec::new(heap);
-        for _ in 0..256 {
-            list.push(record(2, 1, 1))?;
-        }
+        let mut list = vec![in heap; record(2, 1, 1); 256]?;
         for i in 1..256 {
             list.push(record(3, 0, 2 * i + 1))?;
         }
@@ -181,10 +178,11 @@ mod tests {
     fn out_and_in(rt: HostRuntime) -> Result<(), Fail> {
         let mut from = Rule::new(rt.alloc())?;
         assert!(rt; taken(&mut from, &SAMPLE));
-        let mut list = Vec::new(rt.alloc());
-        for node in from.nodes() {
-            list.push(Record::from(*node))?;
-        }
+        let list: Vec<Record> = from
+            .nodes()
+            .iter()
+            .map(|node| Record::from(*node))
+            .collect(rt.alloc())?;
         let mut to = Rule::new(rt.alloc())?;
         assert!(rt; holds(&to, &[record(0, 0, 1)]));
         assert!(rt; taken(&mut to, &list));
