@@ -17,16 +17,6 @@ pub record AddedFrom (ns : List Node) (next : ℕ → ℕ) (short : ℕ → Opti
   pub low : (a : ℕ) → p ≤ a → a ≤ length ns → AtMost (512 * (length ns - a)) (get_or far a None)
 
 module _ (ns : List Node) (w : WellFormed ns) (next : ℕ → ℕ) (N : IsNext ns next) (short : ℕ → Option ℕ) (short-low : (q : ℕ) → q < length ns → AtMost 512 (short q)) where
-  pub end_added : (far : List (Option ℕ)) → length far ≡ length ns + 1 → AddedFrom ns next short (set far (length ns) (Some 0)) (length ns)
-  end_added far h =
-      let e = get_or-set_same far (length ns) (Some 0) None (omega arith) in
-      record {
-        long = length-set far (length ns) (Some 0) ∙ h;
-        end = e;
-        adds = λ a k j. absurd (omega arith);
-        low = λ a k j. (let i : a ≡ length ns = omega arith in rw (i, e) (omega arith));
-      }
-
   module _ (p : ℕ) (far : List (Option ℕ)) (some : 0 < p) (h : p ≤ length ns) (s : AddedFrom ns next short far p) where
     later : (p - 1 < next (p - 1)) × (next (p - 1) ≤ length ns)
     later = next_later ns w next N (p - 1) (omega arith)
@@ -35,11 +25,12 @@ module _ (ns : List Node) (w : WellFormed ns) (next : ℕ → ℕ) (N : IsNext n
     own_low : AtMost 512 (short (p - 1))
     own_low = short-low (p - 1) (omega arith)
 
-    next_low : AtMost (512 * (length ns - next (p - 1))) (get_or far (next (p - 1)) None)
-    next_low = let l = later in s.low (next (p - 1)) (omega arith) l.1
+    -- and what is added to it
+    left_low : AtMost (512 * (length ns - next (p - 1))) (get_or far (next (p - 1)) None)
+    left_low = let l = later in s.low (next (p - 1)) (omega arith) l.1
 
-    pub both_low : AtMost (2 ^ 20) (short (p - 1)) × AtMost (2 ^ 20) (get_or far (next (p - 1)) None)
-    both_low = (at_most_more _ _ (short (p - 1)) (omega arith) own_low, at_most_more _ _ (get_or far (next (p - 1)) None) (omega (arith, w.2)) next_low)
+    pub next_low : AtMost (2 ^ 20) (get_or far (next (p - 1)) None)
+    next_low = at_most_more _ _ (get_or far (next (p - 1)) None) (omega (arith, w.2)) left_low
 
     pub added_more : (x : Option ℕ) → x ≡ sum (short (p - 1)) (get_or far (next (p - 1)) None) → AddedFrom ns next short (set far (p - 1) x) (p - 1)
     added_more x e = record {
@@ -50,7 +41,7 @@ module _ (ns : List Node) (w : WellFormed ns) (next : ℕ → ℕ) (N : IsNext n
         | inr i ↦ (let l = next_later ns w next N a j in other a (omega arith) ∙ s.adds a (omega arith) j ∙ ap (sum (short a)) (sym (other (next a) (omega arith))))
       ];
       low = λ a k j. elim (eqb_tells a (p - 1)) [
-        | inl i ↦ (let l = later in rw (i.1, own, e) (at_most_more _ _ (sum (short (p - 1)) (get_or far (next (p - 1)) None)) (omega arith) (sum_at_most _ _ (short (p - 1)) (get_or far (next (p - 1)) None) own_low next_low)))
+        | inl i ↦ (let l = later in rw (i.1, own, e) (at_most_more _ _ (sum (short (p - 1)) (get_or far (next (p - 1)) None)) (omega arith) (sum_at_most _ _ (short (p - 1)) (get_or far (next (p - 1)) None) own_low left_low)))
         | inr i ↦ (let o = other a (omega arith) in rw o (s.low a (omega arith) j))
       ];
     }

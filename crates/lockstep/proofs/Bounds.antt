@@ -6,7 +6,7 @@ use Rattle.rules.specs.declared.node.Join.{Join}
 use Rattle.rules.specs.declared.node.Form.TheVariants.{Join as join}
 use Rattle.rules.specs.Nodes.{form_at, size_at, WellFormed}
 use Rattle.rules.proofs.Sizes.{size_within}
-use Rattle.rules.proofs.Spans.{spans, join_facts, join_size}
+use Rattle.rules.proofs.Spans.{spans, join_facts}
 use Rattle.lockstep.specs.Far.{sum, smaller, AtMost}
 
 pub at_most_more : (m n : ℕ) (o : Option ℕ) → m ≤ n → AtMost m o → AtMost n o
@@ -36,6 +36,3 @@ module _ (ns : List Node) (w : WellFormed ns) (p l r : ℕ) (o : Join) (e : join
         at_most_more _ _ (short l) (omega (arith, size_within ns w.0 l (omega arith), w.2)) left_low,
         at_most_more _ _ (short r) (omega (arith, size_within ns w.0 r (omega arith), w.2)) right_low,
       )
-
-  pub smaller_low : AtMost (size_at ns p) (smaller (short l) (short r))
-  smaller_low = at_most_more _ _ (smaller (short l) (short r)) (omega (arith, join_size ns w p l r o (sym e))) (smaller_at_most _ _ (short l) (short r) left_low right_low)

@@ -1,4 +1,3 @@
 pub mod Sizes
 pub mod Spans
-mod Growing
 mod Taking

@@ -47,3 +47,16 @@ size_few ns f few i s e =
       | inl l ↦ rw (lt-ltb i (length ns) l) (omega (arith, size_within ns f i l))
       | inr l ↦ rw (le-ltb i (length ns) l) (omega arith)
     ])
+
+-- a node's size is told by the sizes before it
+joined_from : (size size' : ℕ → ℕ) (i : ℕ) → ((j : ℕ) → j < i → size j ≡ size' j) → joined_size size i ≡ joined_size size' i
+joined_from size size' zero h = rw (le-ltb (size 0) 0 (omega arith), le-ltb (size' 0) 0 (omega arith))
+joined_from size size' (suc i) h = rw (h (suc i - 1) (omega arith), h (suc i - 1 - size' (suc i - 1)) (omega arith))
+
+pub size_from : (size size' : ℕ → ℕ) (x : Shape) (i : ℕ) → ((j : ℕ) → j < i → size j ≡ size' j) → size_for size x i ≡ size_for size' x i
+size_from size size' Void i h = refl
+size_from size size' Nil i h = refl
+size_from size size' (Leaf t) i h = refl
+size_from size size' (Join o) i h = joined_from size size' i h
+size_from size size' Repeat zero h = refl
+size_from size size' Repeat (suc i) h = rw (h (suc i - 1) (omega arith))

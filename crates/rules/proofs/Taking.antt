@@ -12,7 +12,7 @@ use Rattle.rules.specs.declared.node.Node.{Node}
 use Rattle.rules.specs.declared.record.Record.{Record}
 use Rattle.rules.specs.Nodes.{node, no_node, shape_at, size_at, is_size, Fitting, Rooted, test_of, TestsFit}
 use Rattle.rules.specs.Records.{code_of, record_of, Tells, Good, no_record, size_in, GoodAt, EndsInRoot, BadAt, too_many, bad_record, no_root, RecordsOf, Takes, OneAnswer, ComesBack}
-use Rattle.rules.proofs.Growing.{size_from}
+use Rattle.rules.proofs.Sizes.{size_from}
 
 -- the shape that a code and a test tell, and the node that a record does
 abbrev shape_of : ℕ → ℕ → Shape

@@ -22,13 +22,7 @@ loop-p-preserved g c =
       λ k h. pushed_each (λ k x. AtMost (size_at ns k) x) old (vec_items c.push_reserved.new.self) own None c.push_reserved.ensures.items (λ k h. c.loop-p.invariant.3 k (omega arith)) (rw at c.short_at-own.ensures.low) k (omega arith),
     )
 
-pub returns : goal.returns
-returns g c =
-    let ns = vec_items c.args.rule.now.nodes in
+pub returns-clause-low : goal.returns-clause-low
+returns-clause-low g c q h =
     let count = ap length c.nodes-p-end.ensures in
-    record {
-      value = λ p h. c.loop-p.invariant.2 p (omega arith);
-      low = λ q h. at_most_more _ _ (get_or (vec_items c.loop-p.short) q None) (omega (arith, size_within ns c.args.rule.now.formed.0 q h, c.args.rule.now.formed.2)) (c.loop-p.invariant.3 q (omega arith));
-      len = omega arith;
-      capacity = omega arith;
-    }
+    at_most_more _ _ (get_or (vec_items c.loop-p.short) q None) (omega (arith, size_within (vec_items c.args.rule.now.nodes) c.args.rule.now.formed.0 q h, c.args.rule.now.formed.2)) (c.loop-p.invariant.3 q (omega arith))

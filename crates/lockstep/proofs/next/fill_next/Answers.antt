@@ -1,12 +1,7 @@
--- The root's entry is set first, and each node hands down.
-use Rattle.std.proofs.Common.{◌-◌, length, set, vec_items, sym, ap, subst, arith}
-use Rattle.lockstep.proofs.Handing.{SetFrom, root_set, set_more}
+-- Each node hands down.
+use Rattle.std.proofs.Common.{length, vec_items, ap, arith}
+use Rattle.lockstep.proofs.Handing.{set_more}
 use Rattle.lockstep.proofs.next.fill_next.Goals as goal
-
-pub loop-p-init : goal.loop-p-init
-loop-p-init c =
-    let ns = vec_items c.args.rule.now.nodes in
-    subst (λ n. SetFrom ns (set c.args.next.now (n - 1) n) n) (sym (ap length c.nodes-count.ensures)) (root_set ns c.args.rule.now.formed c.args.next.now c.requires)
 
 pub loop-p-preserved : goal.loop-p-preserved
 loop-p-preserved c =

@@ -1,22 +1,16 @@
 -- Each table stays as its part leaves it.
-use Rattle.std.proofs.Common.{ℕ, ◌<◌, List, length, get_or, None, vec_items, Option, sym, ap, ◌∙◌, subst, arith}
+use Rattle.std.proofs.Common.{length, get_or, None, vec_items, sym, ap, ◌∙◌, subst, arith}
 use Rattle.std.proofs.lemmas.List.{with_items_is}
 use Rattle.std.specs.Vec.{with_items}
 use Rattle.lockstep.specs.Next.{NextTable}
-use Rattle.lockstep.specs.Far.{FarTable, AtMost}
+use Rattle.lockstep.specs.Far.{FarTable}
 use Rattle.lockstep.proofs.tables.Tables.fill.Goals as goal
 
-pub fill_far-requires : goal.fill_far-requires
-fill_far-requires g c =
-    let ns = vec_items c.args.rule.now.nodes in
+pub fill_far-requires-clause-next : goal.fill_far-requires-clause-next
+fill_far-requires-clause-next g c =
     let count = ap length c.nodes-count.ensures in
     let next-kept = with_items_is c.refill.new.table c.fill_next.new.next (omega arith) in
-    record {
-      next = subst (NextTable ns) (sym (c.deref.ensures.value ∙ next-kept)) (omega arith, c.fill_next.ensures);
-      low = subst (λ (xs : List (Option ℕ)). (q : ℕ) → q < length ns → AtMost 512 (get_or xs q None)) (sym c.deref-2.ensures.value) c.fill_short.ensures.low;
-      short_len = omega arith;
-      far_len = omega arith;
-    }
+    subst (NextTable (vec_items c.args.rule.now.nodes)) (sym (c.deref.ensures.value ∙ next-kept)) (omega arith, c.fill_next.ensures)
 
 pub returns : goal.returns
 returns g c =
