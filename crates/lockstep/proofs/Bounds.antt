@@ -1,13 +1,12 @@
--- Bounds of sums and of the smaller one, so that short of a join is at most its size.
-use Rattle.std.proofs.Common.{◌≡◌, ℕ, ◌+◌, ◌^◌, ◌<◌, ◌≤◌, List, Some, None, Option, sym, inl, inr, arith}
-use Rattle.std.proofs.lemmas.Bool.Decides.{leb_tells}
+-- Bounds of sums, and of short of the children of a join.
+use Rattle.std.proofs.Common.{◌≡◌, ℕ, ◌+◌, ◌^◌, ◌<◌, ◌≤◌, List, Some, None, Option, sym, arith}
 use Rattle.rules.specs.declared.node.Node.{Node}
 use Rattle.rules.specs.declared.node.Join.{Join}
 use Rattle.rules.specs.declared.node.Form.TheVariants.{Join as join}
 use Rattle.rules.specs.Nodes.{form_at, size_at, WellFormed}
 use Rattle.rules.proofs.Sizes.{size_within}
 use Rattle.rules.proofs.Spans.{spans, join_facts}
-use Rattle.lockstep.specs.Far.{sum, smaller, AtMost}
+use Rattle.lockstep.specs.Far.{sum, AtMost}
 
 pub at_most_more : (m n : ℕ) (o : Option ℕ) → m ≤ n → AtMost m o → AtMost n o
 at_most_more m n None h f = tt
@@ -17,11 +16,6 @@ pub sum_at_most : (m n : ℕ) (a b : Option ℕ) → AtMost m a → AtMost n b �
 sum_at_most m n None b f g = tt
 sum_at_most m n (Some x) None f g = tt
 sum_at_most m n (Some x) (Some y) f g = omega arith
-
-pub smaller_at_most : (m n : ℕ) (a b : Option ℕ) → AtMost m a → AtMost n b → AtMost (m + n) (smaller a b)
-smaller_at_most m n None b f g = at_most_more n (m + n) b (omega arith) g
-smaller_at_most m n (Some x) None f g = omega arith
-smaller_at_most m n (Some x) (Some y) f g = elim (leb_tells x y) [ inl e ↦ rw e.0 (omega arith) | inr e ↦ rw e.0 (omega arith) ]
 
 module _ (ns : List Node) (w : WellFormed ns) (p l r : ℕ) (o : Join) (e : join o l r ≡ form_at ns p) (short : ℕ → Option ℕ) (low : (q : ℕ) → q < p → AtMost (size_at ns q) (short q)) where
   left_low : AtMost (size_at ns l) (short l)
