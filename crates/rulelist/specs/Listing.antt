@@ -4,11 +4,8 @@ use Rattle.lockstep.specs.Next.{NextTable}
 use Rattle.lockstep.specs.Far.{FarTable}
 use Rattle.refusals.specs.declared.Fault.{Fault}
 use Rattle.refusals.specs.Table.{fault_text}
-use Rattle.rules.specs.declared.node.Join.TheVariants.{Chain, Choice}
 use Rattle.rules.specs.declared.node.Node.{Node}
-use Rattle.rules.specs.declared.node.Shape.{Shape}
-use Rattle.rules.specs.declared.node.Shape.TheVariants.{Void, Nil, Leaf, Join, Repeat}
-use Rattle.rules.specs.Nodes.{no_node, leaf_test}
+use Rattle.rules.specs.Nodes.{no_node, kind_word, leaf_test}
 use Rattle.rule_text.specs.Reading.{Taken, Refused}
 use Rattle.symbols.specs.Bytes.{every_byte, test_at, is_every}
 use Rattle.symbols.specs.Turned.{turned_at}
@@ -19,15 +16,6 @@ abbrev pub line : List (List ℕ) → List ℕ
 line [] = codes "\n"
 line (x ∷ []) = x ++ codes "\n"
 line (x ∷ y ∷ xs) = x ++ (codes " " ++ line (y ∷ xs))
-
--- the word for a node's kind
-abbrev pub kind_word : Shape → List ℕ
-kind_word Void = codes "void"
-kind_word Nil = codes "nil"
-kind_word (Leaf t) = codes "leaf"
-kind_word (Join Chain) = codes "chain"
-kind_word (Join Choice) = codes "choice"
-kind_word Repeat = codes "repeat"
 
 -- a number, or `-` where there is none
 abbrev pub field : Option ℕ → List ℕ

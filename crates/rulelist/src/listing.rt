@@ -1,11 +1,11 @@
 // The listing of a rule's text: a line for each node, or the line of its fault.
 ghost use Rattle.std.specs.Prelude.{◌≡◌, ◌+◌, [], ◌∷◌, ◌++◌, length, IfOk, Some, string_bytes};
-ghost use Rattle.rulelist.specs.Listing.{letter_tests, kind_word, field, row, listing as listing_of, fault_line, Lists, Prints};
+ghost use Rattle.rulelist.specs.Listing.{letter_tests, field, row, listing as listing_of, fault_line, Lists, Prints};
 
 use lockstep::Tables;
 use refusals::Fault;
 use rule_text::{Entry, read};
-use rules::{Join, Node, Rule, Shape};
+use rules::{Node, Rule};
 use std::alloc::{AllocError, Global};
 use std::fmt;
 use symbols::{ByteKind, Turned};
@@ -32,20 +32,6 @@ impl fmt::Display for Field {
     }
 }
 
-// The word for a node's kind.
-fn kind_word(shape: Shape) -> &'static str
-    ensures { result.now ≡ kind_word shape }
-{
-    match shape {
-        Shape::Void => "void",
-        Shape::Nil => "nil",
-        Shape::Leaf(_) => "leaf",
-        Shape::Join(Join::Chain) => "chain",
-        Shape::Join(Join::Choice) => "choice",
-        Shape::Repeat => "repeat",
-    }
-}
-
 // The line of a node.
 #[derive(Clone, Copy)]
 struct Row {
@@ -60,7 +46,7 @@ impl fmt::Display for Row {
 
     fn fmt<W: fmt::Write>(&self, f: &mut fmt::Formatter<W>) -> fmt::Result {
         let number = self.number;
-        let kind = kind_word(self.node.shape);
+        let kind = self.node.shape;
         let test = Field(self.node.shape.test().map(u32::from));
         let size = self.node.size;
         let next = self.next;

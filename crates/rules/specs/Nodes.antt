@@ -1,9 +1,10 @@
 -- Node lists: what each node is, which lists are well formed, and how a list grows.
-use Rattle.std.specs.Prelude.{◌≡◌, ℕ, ◌+◌, ◌-◌, ◌<◌, ◌≤◌, Bool, true, false, cond, List, [], ◌∷◌, ◌++◌, length, Some, None, Option, ◌==◌, nat_le, nat_lt, slice_index_or}
+use Rattle.std.specs.Prelude.{◌≡◌, ℕ, ◌+◌, ◌-◌, ◌<◌, ◌≤◌, Bool, true, false, cond, List, [], ◌∷◌, ◌++◌, length, Some, None, codes, Option, ◌==◌, nat_le, nat_lt, slice_index_or}
 use Rattle.std.specs.Option.{unwrap_or}
 use Rattle.rules.specs.declared.node.Shape.{Shape}
 use Rattle.rules.specs.declared.node.Shape.TheVariants.{Void, Nil, Leaf, Join, Repeat}
 use Rattle.rules.specs.declared.node.Node.{Node}
+use Rattle.rules.specs.declared.node.Join.TheVariants.{Chain, Choice}
 use Rattle.rules.specs.declared.node.Form.{Form}
 use Rattle.rules.specs.declared.node.Form.TheVariants.{Void as void, Nil as nil, Leaf as leaf, Join as join, Repeat as repeat}
 
@@ -52,6 +53,15 @@ Fitting ns = (i : ℕ) → i < length ns → fits_at ns i ≡ true
 -- the last node is the root of all: its part is the whole list
 abbrev pub Rooted : List Node → Type 0
 Rooted ns = (0 < length ns) × (size_at ns (length ns - 1) ≡ length ns)
+
+-- the word for a node's kind
+abbrev pub kind_word : Shape → List ℕ
+kind_word Void = codes "void"
+kind_word Nil = codes "nil"
+kind_word (Leaf t) = codes "leaf"
+kind_word (Join Chain) = codes "chain"
+kind_word (Join Choice) = codes "choice"
+kind_word Repeat = codes "repeat"
 
 -- the test of a leaf; none of every other shape
 abbrev pub leaf_test : Shape → Option ℕ

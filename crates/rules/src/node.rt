@@ -1,6 +1,8 @@
 // Nodes: the parts of a rule.
-ghost use Rattle.std.specs.Prelude.{◌≡◌};
-ghost use Rattle.rules.specs.Nodes.{leaf_test};
+ghost use Rattle.std.specs.Prelude.{◌≡◌, Some};
+ghost use Rattle.rules.specs.Nodes.{kind_word, leaf_test};
+
+use std::fmt;
 
 // The two ways of joining a left and a right child.
 #[derive(Clone, Copy, Debug, PartialEq, Eq)]
@@ -52,5 +54,21 @@ impl Shape {
             Shape::Leaf(test) => Some(test),
             Shape::Void | Shape::Nil | Shape::Join(_) | Shape::Repeat => None,
         }
+    }
+}
+
+// A shape is printed by its word.
+impl fmt::Display for Shape {
+    ghost output = { λ x. Some (kind_word x) };
+
+    fn fmt<W: fmt::Write>(&self, f: &mut fmt::Formatter<W>) -> fmt::Result {
+        f.write_str(match self {
+            Shape::Void => "void",
+            Shape::Nil => "nil",
+            Shape::Leaf(_) => "leaf",
+            Shape::Join(Join::Chain) => "chain",
+            Shape::Join(Join::Choice) => "choice",
+            Shape::Repeat => "repeat",
+        })
     }
 }
