@@ -1,15 +1,14 @@
--- Tests of rows: which rows meet one, what stands past a list, and which tests some row meets or fails.
-use Rattle.std.specs.Prelude.{◌≡◌, ℕ, ◌<◌, ◌≤◌, true, false, not, ◌&&◌, List, length, replicate, Decides, ◌==◌, nat_le, nat_lt, refl}
+-- Tests of rows: which rows meet one, and which of them some row meets or fails.
+use Rattle.std.specs.Prelude.{◌≡◌, ℕ, ◌<◌, ◌≤◌, true, false, not, ◌&&◌, replicate, Decides, ◌==◌, nat_le, nat_lt, refl}
 use Rattle.std.proofs.Math.Bool.{Bool-set}
 use Rattle.std.proofs.Common.{inl, inr, arith}
 use Rattle.std.proofs.Math.Logic.{∥∥₁_elim}
-use Rattle.std.proofs.lemmas.List.{get_or_past}
-use Rattle.std.proofs.lemmas.Bool.{and_from, and_left, and_parts, and_right, cases_Bool, cases_lt, eq-eqb, eqb-true, le-leb, le-ltb, leb-true, lt-leb, lt-ltb, ltb-true, not_from_false, not-true, or_right, true≢false}
+use Rattle.std.proofs.lemmas.Bool.{and_from, and_left, and_parts, and_right, cases_Bool, cases_lt, eq-eqb, eqb-true, le-leb, le-ltb, leb-true, lt-leb, lt-ltb, not_from_false, not-true, or_right, true≢false}
 use Rattle.symbols.specs.declared.row_kind.RowTest.{RowTest}
 use Rattle.symbols.specs.declared.rows.Row.{Row}
 use Rattle.symbols.specs.Hooks.{bit_of, none_from}
 use Rattle.symbols.specs.Kinds.{SomeMeets, SomeFails}
-use Rattle.symbols.specs.RowTests.{AllSoundRows, every_row, no_row, row_test_at, as_wanted, named_if_wanted, row_meets, is_sound, wants_below, is_every_row}
+use Rattle.symbols.specs.RowTests.{every_row, as_wanted, named_if_wanted, row_meets, is_sound, wants_below, is_every_row}
 use Rattle.symbols.specs.Rows.{fresh_row, hook_of, width_of}
 use Rattle.symbols.specs.Bits.{every_yes, every_at, every_no, bit_zeros, bit_ones, none_each, none_at, none_some}
 
@@ -96,12 +95,6 @@ module _ (b : RowTest) (sound : is_sound b ≡ true) where
         | inr unset ↦ rw unset (not_from_false (nat_lt h (width_of row) && false) (and_right (nat_lt h (width_of row)) false refl))
       ]))
 
-  -- so it does where it comes from a test that is the same
-  pub inside_shown : (test : RowTest) → test ≡ b → wants_below test ≡ true → (row : Row) → row ≡ record { width = test.highest; bits = test.wanted } → row_meets b row ≡ true
-  inside_shown test same below row is =
-      let known : wants_below b ≡ true = rw same at below in
-      rw (is, same) (inside_meets known)
-
   -- where a row meets, every hook with wanted 1 lies below the highest width
   meets_below : (r : Row) → row_meets b r ≡ true → wants_below b ≡ true
   meets_below r e =
@@ -148,54 +141,28 @@ module _ (b : RowTest) (sound : is_sound b ≡ true) where
         ]
       ]
 
--- no row meets the test of widths 1 to 0
-no_row_lem : (r : Row) → row_meets no_row r ≡ false
-no_row_lem r = elim (cases_lt (width_of r) 1) [ inl l ↦ narrow_fails no_row r l | inr l ↦ wide_fails no_row r l ]
-
 -- the test of widths 0 to 256 that names no hook is the one that every row meets
-every_is : is_every_row every_row ≡ true
+pub every_is : is_every_row every_row ≡ true
 every_is = none_each (replicate 32 0) 0 (λ h _ _. bit_zeros 32 h)
 
 -- it keeps the rules of tests
 pub every_sound : is_sound every_row ≡ true
 every_sound = every_yes (named_if_wanted every_row) 256 (λ h _. rw (bit_zeros 32 h))
 
--- every row meets test 0
-pub first_meets : (list : List RowTest) (r : Row) → row_test_at list 0 ≡ every_row → row_meets (row_test_at list 0) r ≡ true
-first_meets list r e = rw e (every_meets every_row r every_is)
-
-module _ (list : List RowTest) (t : ℕ) (past : length list ≤ t) where
-  -- every row fails a number past the list
-  pub past_row_fails : (r : Row) → row_meets (row_test_at list t) r ≡ false
-  past_row_fails r = rw (get_or_past list t no_row past) (no_row_lem r)
-
-  -- a number past the list is not the test that every row meets
-  pub past_row_avoidable : not (is_every_row (row_test_at list t)) ≡ true
-  past_row_avoidable = rw (get_or_past list t no_row past)
-
-module _ (list : List RowTest) (each : AllSoundRows list) (t : ℕ) where
-  -- some row meets test t exactly where the list has it and every hook with wanted 1 lies below its highest width
-  pub rows_meetable : Decides (nat_lt t (length list) && wants_below (row_test_at list t)) (SomeMeets (row_meets (row_test_at list t)))
-  rows_meetable = (
-    λ e.
-        let p = and_parts (nat_lt t (length list)) _ e in
-        let b = row_test_at list t in
-        ∣ (record { width = b.highest; bits = b.wanted }, inside_meets b (each t (ltb-true t (length list) p.0)) p.1) ∣₁,
-    λ h. ∥∥₁_elim h (Bool-set (nat_lt t (length list) && wants_below (row_test_at list t)) true) (λ x. elim (cases_lt t (length list)) [
-      | inl l ↦ and_from (nat_lt t (length list)) _ (lt-ltb t (length list) l) (meets_below (row_test_at list t) (each t l) x.0 x.1)
-      | inr l ↦ let p = past_row_fails list t l x.0 in let q = x.1 in absurd (true≢false (cc))
-    ]),
+module _ (b : RowTest) (sound : is_sound b ≡ true) where
+  -- some row meets a sound test exactly where every hook with wanted 1 lies below its highest width
+  pub row_meetable : Decides (wants_below b) (SomeMeets (row_meets b))
+  row_meetable = (
+    λ e. ∣ (record { width = b.highest; bits = b.wanted }, inside_meets b sound e) ∣₁,
+    λ h. ∥∥₁_elim h (Bool-set (wants_below b) true) (λ x. meets_below b sound x.0 x.1),
   )
 
-  -- some row fails test t exactly where it is not the one that every row meets
-  pub rows_failable : Decides (not (is_every_row (row_test_at list t))) (SomeFails (row_meets (row_test_at list t)))
-  rows_failable = (
-    λ e. elim (cases_lt t (length list)) [
-      | inl l ↦ ∣ some_fails (row_test_at list t) (each t l) (not-true (is_every_row (row_test_at list t)) e) ∣₁
-      | inr l ↦ ∣ (fresh_row, past_row_fails list t l fresh_row) ∣₁
-    ],
-    λ h. ∥∥₁_elim h (Bool-set (not (is_every_row (row_test_at list t))) true) (λ x. elim (cases_Bool (is_every_row (row_test_at list t))) [
-      | inl y ↦ let p = every_meets (row_test_at list t) x.0 y in let q = x.1 in absurd (true≢false (cc))
+  -- some row fails a sound test exactly where it is not the one that every row meets
+  pub row_failable : Decides (not (is_every_row b)) (SomeFails (row_meets b))
+  row_failable = (
+    λ e. ∣ some_fails b sound (not-true (is_every_row b) e) ∣₁,
+    λ h. ∥∥₁_elim h (Bool-set (not (is_every_row b)) true) (λ x. elim (cases_Bool (is_every_row b)) [
+      | inl y ↦ let p = every_meets b x.0 y in let q = x.1 in absurd (true≢false (cc))
       | inr y ↦ rw y
     ]),
   )

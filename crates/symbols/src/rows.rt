@@ -3,7 +3,6 @@ ghost use Rattle.std.specs.Prelude.{◌≡◌, ℕ, ◌/◌, ◌<◌, ◌≤◌,
 ghost use Rattle.symbols.specs.Hooks.{bit_of, none_from};
 ghost use Rattle.symbols.specs.Rows.{width_of, hook_of, fresh_row, padded_to32, load_result, load_after};
 
-use crate::limits::refused;
 use refusals::{Fault, Refusal};
 
 // The most hooks that a row has.
@@ -86,13 +85,13 @@ fn loadable(width: usize, bytes: &[u8]) -> Result<(), Fault>
     ensures { result ≡ load_result width bytes.now }
 {
     if width > MAX_WIDTH {
-        return Err(refused(Refusal::TooWide));
+        return Err(Refusal::TooWide.at(0));
     }
     if bytes.len() != (width + 7) / 8 {
-        return Err(refused(Refusal::WrongLength));
+        return Err(Refusal::WrongLength.at(0));
     }
     if !none_from(bytes, width) {
-        return Err(refused(Refusal::BitPastWidth));
+        return Err(Refusal::BitPastWidth.at(0));
     }
     Ok(())
 }

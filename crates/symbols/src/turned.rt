@@ -6,7 +6,6 @@ ghost use Rattle.symbols.specs.Opposites.{place_meetable, place_failable};
 ghost use Rattle.std.proofs.Common.{rules};
 
 use crate::kind::Kind;
-use crate::limits::refused;
 use crate::showing::Showing;
 use refusals::{Fault, Refusal};
 
@@ -44,7 +43,7 @@ impl<K: Kind> Turned<K> {
     {
         if kind.tests() > MAX_TURNED {
             return Err(NotTurned {
-                fault: refused(Refusal::TooManyTests),
+                fault: Refusal::TooManyTests.at(0),
                 kind,
             });
         }

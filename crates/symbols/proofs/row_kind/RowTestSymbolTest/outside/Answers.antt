@@ -1,7 +1,7 @@
 -- Of a test of widths 0 to 256, the widest row with every hook set fails where no hook has wanted 1, and else the one with none set.
 use Rattle.std.proofs.Common.{sym, arith}
 use Rattle.symbols.specs.RowLaws.{blank_fails, full_fails, named_some, widths}
-use Rattle.symbols.proofs.row_kind.RowTest.outside.Goals as goal
+use Rattle.symbols.proofs.row_kind.RowTestSymbolTest.outside.Goals as goal
 
 pub returns-then-none_from : goal.returns-then-none_from
 returns-then-none_from c sound some =

@@ -1,0 +1,62 @@
+-- Lists of sound tests: what stands past the end, and which tests some symbol meets or fails.
+use Rattle.std.specs.Prelude.{◌≡◌, ℕ, zero, suc, ◌≤◌, Bool, true, false, not, List, [], ◌∷◌, length, None, Some, Option, Decides, slice_get, refl}
+use Rattle.std.specs.List.{list_all}
+use Rattle.std.specs.Option.{option_map_or}
+use Rattle.std.proofs.Common.{inl, inr, arith}
+use Rattle.std.proofs.Math.Bool.{Bool-set}
+use Rattle.std.proofs.Math.Logic.{∥∥₁_elim}
+use Rattle.std.proofs.lemmas.Bool.{and_parts, cases_Bool, not_from_true, true≢false, false≢true}
+use Rattle.std.proofs.lemmas.Option.{slice_get_past}
+use Rattle.symbols.specs.Kinds.{SomeMeets, SomeFails}
+use Rattle.symbols.specs.Lists.{has_at}
+
+-- a list of 1 to 64 tests has 1 to 256
+pub few_bounds : (count size : ℕ) → count ≡ size → 1 ≤ count → count ≤ 64 → (1 ≤ size) × (size ≤ 256)
+few_bounds count size same some few = (omega arith, omega arith)
+
+-- a number past the list is that of no test
+pub past_fails : {B : Type 0} (passes : B → Bool) (list : List B) (t : ℕ) → length list ≤ t → has_at passes list t ≡ false
+past_fails passes list t past = rw (slice_get_past list t past)
+
+-- what each test of a list passes, test t passes
+pub passes_at : {B : Type 0} (passes : B → Bool) (list : List B) → list_all passes list ≡ true → (t : ℕ) (b : B) → slice_get list t ≡ Some b → passes b ≡ true
+passes_at passes [] each t b is = cc
+passes_at passes (x ∷ xs) each zero b is = let p = (and_parts (passes x) _ each).0 in let e : x ≡ b = cc in cc
+passes_at passes (x ∷ xs) each (suc t) b is = passes_at passes xs (and_parts (passes x) _ each).1 t b is
+
+module _ {B S : Type 0} (meets : B → S → Bool) (sound can_meet all_meet : B → Bool) (some : S)
+    (meetable : (b : B) → sound b ≡ true → Decides (can_meet b) (SomeMeets (meets b)))
+    (failable : (b : B) → sound b ≡ true → Decides (not (all_meet b)) (SomeFails (meets b))) where
+  -- every symbol meets a sound test of which that is said
+  all_meets : (b : B) → sound b ≡ true → all_meet b ≡ true → (s : S) → meets b s ≡ true
+  all_meets b is all s =
+      elim (cases_Bool (meets b s)) [
+        | inl y ↦ y
+        | inr n ↦ let fails = (failable b is).1 ∣ (s, n) ∣₁ in let no = not_from_true (all_meet b) all in absurd (true≢false (cc))
+      ]
+
+  -- what holds of each test that there may be at a place
+  meetable_of : (o : Option B) → ((b : B) → o ≡ Some b → sound b ≡ true) → Decides (option_map_or can_meet o false) (SomeMeets (λ s. option_map_or (λ b. meets b s) o false))
+  meetable_of None each = (λ e. absurd (false≢true e), λ h. ∥∥₁_elim h (Bool-set false true) (λ x. x.1))
+  meetable_of (Some b) each = meetable b (each b refl)
+
+  failable_of : (o : Option B) → ((b : B) → o ≡ Some b → sound b ≡ true) → Decides (not (option_map_or all_meet o false)) (SomeFails (λ s. option_map_or (λ b. meets b s) o false))
+  failable_of None each = (λ _. ∣ (some, refl) ∣₁, λ _. refl)
+  failable_of (Some b) each = failable b (each b refl)
+
+  met_of : (o : Option B) → ((b : B) → o ≡ Some b → sound b ≡ true) → option_map_or all_meet o false ≡ true → (s : S) → option_map_or (λ b. meets b s) o false ≡ true
+  met_of None each all s = absurd (false≢true all)
+  met_of (Some b) each all s = all_meets b (each b refl) all s
+
+  module _ (list : List B) (each : list_all sound list ≡ true) where
+    -- every symbol meets the first test
+    pub first_meets : has_at all_meet list 0 ≡ true → (s : S) → has_at (λ b. meets b s) list 0 ≡ true
+    first_meets all s = met_of (slice_get list 0) (passes_at sound list each 0) all s
+
+    -- some symbol meets test t exactly where the list has one that can be met
+    pub list_meetable : (t : ℕ) → Decides (has_at can_meet list t) (SomeMeets (λ s. has_at (λ b. meets b s) list t))
+    list_meetable t = meetable_of (slice_get list t) (passes_at sound list each t)
+
+    -- some symbol fails test t exactly where the list has none there that every symbol meets
+    pub list_failable : (t : ℕ) → Decides (not (has_at all_meet list t)) (SomeFails (λ s. has_at (λ b. meets b s) list t))
+    list_failable t = failable_of (slice_get list t) (passes_at sound list each t)
