@@ -59,7 +59,7 @@ module _ (width : ℕ) (bytes bits : List ℕ) (ok : is_ok (load_result width by
   past_width : (h : ℕ) → width ≤ h → bit_of bytes h ≡ false
   past_width h l =
       elim (cases_lt h 256) [
-        | inl low ↦ none_at bytes width none h low l
+        | inl low ↦ none_at bytes width none h l low
         | inr high ↦ bit_past bytes h (omega (arith, narrow, enough))
       ]
 

@@ -32,13 +32,13 @@ module _ (b : RowTest) (r : Row) where
   -- a row with a hook that is not as wanted fails
   hook_fails : (h : ℕ) → h < 256 → as_wanted b r h ≡ false → row_meets b r ≡ false
   hook_fails h top e =
-      and_right (nat_le b.lowest (width_of r)) _ (and_right (nat_le (width_of r) b.highest) _ (every_no (as_wanted b r) 256 h top e))
+      and_right (nat_le b.lowest (width_of r)) _ (and_right (nat_le (width_of r) b.highest) _ (every_no (as_wanted b r) 0 256 h (omega arith) top e))
 
   -- a row of a width between, with each hook as wanted, meets
   meets_from : b.lowest ≤ width_of r → width_of r ≤ b.highest → ((h : ℕ) → h < 256 → as_wanted b r h ≡ true) → row_meets b r ≡ true
   meets_from low high each =
       and_from (nat_le b.lowest (width_of r)) _ (le-leb b.lowest (width_of r) low)
-      (and_from (nat_le (width_of r) b.highest) _ (le-leb (width_of r) b.highest high) (every_yes (as_wanted b r) 256 each))
+      (and_from (nat_le (width_of r) b.highest) _ (le-leb (width_of r) b.highest high) (every_yes (as_wanted b r) 0 256 (λ h _ top. each h top)))
 
   -- a row that meets has no more than the highest width
   meets_high : row_meets b r ≡ true → width_of r ≤ b.highest
@@ -47,7 +47,7 @@ module _ (b : RowTest) (r : Row) where
   -- in a row that meets each hook is as wanted
   meets_hook : row_meets b r ≡ true → (h : ℕ) → h < 256 → as_wanted b r h ≡ true
   meets_hook e h top =
-      every_at (as_wanted b r) 256 (and_parts (nat_le (width_of r) b.highest) _ (and_parts (nat_le b.lowest (width_of r)) _ e).1).1 h top
+      every_at (as_wanted b r) 0 256 (and_parts (nat_le (width_of r) b.highest) _ (and_parts (nat_le b.lowest (width_of r)) _ e).1).1 h (omega arith) top
 
   -- a test with widths 0 to 256 and no named hook is met by every row
   pub every_meets : is_every_row b ≡ true → row_meets b r ≡ true
@@ -56,7 +56,7 @@ module _ (b : RowTest) (r : Row) where
       let q = and_parts (b.highest == 256) _ p.1 in
       let low = eqb-true b.lowest 0 p.0 in
       let high = eqb-true b.highest 256 q.0 in
-      meets_from (omega arith) (omega arith) (λ h top. rw (none_at b.named 0 q.1 h top (omega arith)))
+      meets_from (omega arith) (omega arith) (λ h top. rw (none_at b.named 0 q.1 h (omega arith) top))
 
 -- a test of widths 0 to 256 that is not the one that every row meets names some hook
 pub named_some : (b : RowTest) → b.lowest ≤ 0 → b.highest ≤ 256 → 256 ≤ b.highest → is_every_row b ≡ false → none_from b.named 0 ≡ false
@@ -77,7 +77,7 @@ module _ (b : RowTest) (sound : is_sound b ≡ true) where
   wanted_named : (h : ℕ) → h < 256 → bit_of b.wanted h ≡ true → bit_of b.named h ≡ true
   wanted_named h top set =
       let q = and_parts (nat_le b.highest 256) _ (and_parts (nat_le b.lowest b.highest) _ sound).1 in
-      let each = every_at (named_if_wanted b) 256 q.1 h top in
+      let each = every_at (named_if_wanted b) 0 256 q.1 h (omega arith) top in
       rw set at each
 
   -- the row of the highest width with the wanted bits meets, where every hook with wanted 1 lies below that width
@@ -90,7 +90,7 @@ module _ (b : RowTest) (sound : is_sound b ≡ true) where
       meets_from b row (omega arith) (omega arith) (λ h top. or_right (not (bit_of b.named h)) _ (elim (cases_Bool (bit_of b.wanted h)) [
         | inl set ↦ elim (cases_lt h b.highest) [
           | inl l ↦ rw (same, set, lt-ltb h b.highest l)
-          | inr l ↦ let unset = none_at b.wanted b.highest below h top l in absurd (true≢false (cc))
+          | inr l ↦ let unset = none_at b.wanted b.highest below h l top in absurd (true≢false (cc))
         ]
         | inr unset ↦ rw unset (not_from_false (nat_lt h (width_of row) && false) (and_right (nat_lt h (width_of row)) false refl))
       ]))
@@ -98,7 +98,7 @@ module _ (b : RowTest) (sound : is_sound b ≡ true) where
   -- where a row meets, every hook with wanted 1 lies below the highest width
   meets_below : (r : Row) → row_meets b r ≡ true → wants_below b ≡ true
   meets_below r e =
-      none_each b.wanted b.highest (λ h top l. elim (cases_Bool (bit_of b.wanted h)) [
+      none_each b.wanted b.highest (λ h l top. elim (cases_Bool (bit_of b.wanted h)) [
         | inl set ↦
             let hook : hook_of r h ≡ false = and_left (nat_lt h (width_of r)) (bit_of r.bits h) (le-ltb h (width_of r) (omega (arith, meets_high b r e))) in
             let each = meets_hook b r e h top in
@@ -123,7 +123,7 @@ module _ (b : RowTest) (sound : is_sound b ≡ true) where
       let found = none_some b.named 0 some in
       let h = found.0 in
       let named = found.2 in
-      let unset = none_at b.wanted 0 none h found.1 (omega arith) in
+      let unset = none_at b.wanted 0 none h (omega arith) found.1 in
       let hook : hook_of full h ≡ true = and_from (nat_lt h (width_of full)) _ (lt-ltb h 256 found.1) (bit_ones h found.1) in
       hook_fails b full h found.1 (rw (named, unset, hook))
 
@@ -147,7 +147,7 @@ every_is = none_each (replicate 32 0) 0 (λ h _ _. bit_zeros 32 h)
 
 -- it keeps the rules of tests
 pub every_sound : is_sound every_row ≡ true
-every_sound = every_yes (named_if_wanted every_row) 256 (λ h _. rw (bit_zeros 32 h))
+every_sound = every_yes (named_if_wanted every_row) 0 256 (λ h _ _. rw (bit_zeros 32 h))
 
 module _ (b : RowTest) (sound : is_sound b ≡ true) where
   -- some row meets a sound test exactly where every hook with wanted 1 lies below its highest width

@@ -1,7 +1,7 @@
 // The kind of rows: a test is a lowest and a highest width, and wanted bits of some named hooks.
 ghost use Rattle.std.specs.Prelude.{◌≡◌, ◌<◌};
 ghost use Rattle.refusals.specs.declared.Refusal.TheVariants.{BadRowTest};
-ghost use Rattle.symbols.specs.Hooks.{every_below};
+ghost use Rattle.symbols.specs.Hooks.{every_between};
 ghost use Rattle.symbols.specs.RowTests.{every_row, as_wanted, named_if_wanted, row_meets, is_sound, wants_below, is_every_row};
 ghost use Rattle.symbols.specs.RowLaws.{every_sound, every_is, row_meetable, row_failable};
 ghost use Rattle.symbols.specs.Rows.{fresh_row};
@@ -28,14 +28,9 @@ pub type RowKind = TestList<RowTest>;
 impl RowTest {
     // Whether each named hook has its wanted bit.
     fn agrees(&self, row: &Row) -> bool
-        ensures { result ≡ every_below 256 (as_wanted self.now row.now) }
+        ensures { result ≡ every_between 0 256 (as_wanted self.now row.now) }
     {
-        for h in 0..MAX_WIDTH {
-            if !self.as_wanted(row, h) {
-                return false;
-            }
-        }
-        true
+        (0..MAX_WIDTH).all(|h| self.as_wanted(row, h))
     }
 
     // Whether a hook is not named, or has its wanted bit.
@@ -48,14 +43,9 @@ impl RowTest {
 
     // Whether each hook with wanted 1 is named.
     fn names_wanted(&self) -> bool
-        ensures { result ≡ every_below 256 (named_if_wanted self.now) }
+        ensures { result ≡ every_between 0 256 (named_if_wanted self.now) }
     {
-        for h in 0..MAX_WIDTH {
-            if !self.names(h) {
-                return false;
-            }
-        }
-        true
+        (0..MAX_WIDTH).all(|h| self.names(h))
     }
 
     // Whether a hook is named, or its wanted bit is 0.

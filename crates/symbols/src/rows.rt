@@ -28,12 +28,7 @@ pub(crate) fn none_from(bytes: &[u8], start: usize) -> bool
     requires { length bytes.now ≤ 32 }
     ensures { result ≡ none_from bytes.now start }
 {
-    for h in start..8 * bytes.len() {
-        if bit(bytes, h) {
-            return false;
-        }
-    }
-    true
+    (start..8 * bytes.len()).all(|h| !bit(bytes, h))
 }
 
 impl Row {
