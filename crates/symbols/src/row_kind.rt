@@ -119,6 +119,7 @@ impl SymbolTest for RowTest {
         self.lowest == 0 && self.highest as usize == MAX_WIDTH && none_from(&self.named, 0)
     }
 
+    #[tactic(auto, using(crate::specs::RowLaws::inside_meets))]
     fn inside(&self) -> Row {
         Row::kept(self.highest, self.wanted)
     }

@@ -39,6 +39,7 @@ impl<T: SymbolTest> TestList<T> {
     }
 
     // Adds a test, and tells its number.
+    #[tactic(auto, using(crate::proofs::Added::first_push, crate::proofs::Added::all_push))]
     pub fn add(&mut self, test: T) -> Result<u8, Fault>
         ensures answer { result ≡ add_answer self.old.tests.items (T.sound test) T.refusal }
         ensures after { self.new.tests.items ≡ added_to self.old.tests.items test result }
