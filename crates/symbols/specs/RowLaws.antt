@@ -1,12 +1,13 @@
 -- Tests of rows: which rows meet one, and which of them some row meets or fails.
-use Rattle.std.specs.Prelude.{◌≡◌, ℕ, ◌<◌, ◌≤◌, true, false, not, ◌&&◌, replicate, Decides, ◌==◌, nat_le, nat_lt, refl}
+use Rattle.std.specs.Prelude.{◌≡◌, ℕ, ◌<◌, ◌≤◌, true, false, not, ◌&&◌, replicate, Decides, ◌==◌, nat_lt, refl}
 use Rattle.std.proofs.Math.Bool.{Bool-set}
 use Rattle.std.proofs.Common.{inl, inr, arith}
 use Rattle.std.proofs.Math.Logic.{∥∥₁_elim}
-use Rattle.std.proofs.lemmas.Bool.{and_from, and_left, and_parts, and_right, cases_Bool, cases_lt, eq-eqb, eqb-true, le-leb, le-ltb, leb-true, lt-leb, lt-ltb, not_from_false, not-true, or_right, true≢false}
+use Rattle.std.proofs.lemmas.Bool.Decides.{nat_tests}
+use Rattle.std.proofs.lemmas.Bool.{and_from, and_left, and_parts, and_right, cases_Bool, cases_lt, eq-eqb, eqb-true, le-ltb, lt-ltb, not_from_false, not-true, or_right, true≢false}
 use Rattle.symbols.specs.declared.row_kind.RowTest.{RowTest}
 use Rattle.symbols.specs.declared.rows.Row.{Row}
-use Rattle.symbols.specs.Hooks.{bit_of, none_from}
+use Rattle.symbols.specs.Hooks.{every_between, bit_of, none_from}
 use Rattle.symbols.specs.Kinds.{SomeMeets, SomeFails}
 use Rattle.symbols.specs.RowTests.{every_row, as_wanted, named_if_wanted, row_meets, is_sound, wants_below, is_every_row}
 use Rattle.symbols.specs.Rows.{fresh_row, hook_of, width_of}
@@ -23,31 +24,27 @@ full = record { width = 256; bits = replicate 32 255 }
 module _ (b : RowTest) (r : Row) where
   -- a row of a width below the lowest fails
   pub narrow_fails : width_of r < b.lowest → row_meets b r ≡ false
-  narrow_fails l = and_left (nat_le b.lowest (width_of r)) _ (lt-leb b.lowest (width_of r) l)
+  narrow_fails l = grind (arith, nat_tests)
 
   -- a row of a width above the highest fails
   pub wide_fails : b.highest < width_of r → row_meets b r ≡ false
-  wide_fails l = and_right (nat_le b.lowest (width_of r)) _ (and_left (nat_le (width_of r) b.highest) _ (lt-leb (width_of r) b.highest l))
+  wide_fails l = grind (arith, nat_tests)
 
   -- a row with a hook that is not as wanted fails
   hook_fails : (h : ℕ) → h < 256 → as_wanted b r h ≡ false → row_meets b r ≡ false
-  hook_fails h top e =
-      and_right (nat_le b.lowest (width_of r)) _ (and_right (nat_le (width_of r) b.highest) _ (every_no (as_wanted b r) 0 256 h (omega arith) top e))
+  hook_fails h top e = let some = every_no (as_wanted b r) 0 256 h (omega arith) top e in grind (arith, nat_tests)
 
   -- a row of a width between, with each hook as wanted, meets
   meets_from : b.lowest ≤ width_of r → width_of r ≤ b.highest → ((h : ℕ) → h < 256 → as_wanted b r h ≡ true) → row_meets b r ≡ true
-  meets_from low high each =
-      and_from (nat_le b.lowest (width_of r)) _ (le-leb b.lowest (width_of r) low)
-      (and_from (nat_le (width_of r) b.highest) _ (le-leb (width_of r) b.highest high) (every_yes (as_wanted b r) 0 256 (λ h _ top. each h top)))
+  meets_from low high each = let all = every_yes (as_wanted b r) 0 256 (λ h _ top. each h top) in grind (arith, nat_tests)
 
   -- a row that meets has no more than the highest width
   meets_high : row_meets b r ≡ true → width_of r ≤ b.highest
-  meets_high e = leb-true (width_of r) b.highest (and_parts (nat_le (width_of r) b.highest) _ (and_parts (nat_le b.lowest (width_of r)) _ e).1).0
+  meets_high e = grind (arith, nat_tests)
 
   -- in a row that meets each hook is as wanted
   meets_hook : row_meets b r ≡ true → (h : ℕ) → h < 256 → as_wanted b r h ≡ true
-  meets_hook e h top =
-      every_at (as_wanted b r) 0 256 (and_parts (nat_le (width_of r) b.highest) _ (and_parts (nat_le b.lowest (width_of r)) _ e).1).1 h (omega arith) top
+  meets_hook e h top = let all : every_between 0 256 (as_wanted b r) ≡ true = grind (arith, nat_tests) in every_at (as_wanted b r) 0 256 all h (omega arith) top
 
   -- a test with widths 0 to 256 and no named hook is met by every row
   pub every_meets : is_every_row b ≡ true → row_meets b r ≡ true
@@ -68,16 +65,13 @@ named_some b low top high e =
 module _ (b : RowTest) (sound : is_sound b ≡ true) where
   -- the highest width is not below the lowest, and is at most 256
   pub widths : (b.lowest ≤ b.highest) × (b.highest ≤ 256)
-  widths =
-      let p = and_parts (nat_le b.lowest b.highest) _ sound in
-      let q = and_parts (nat_le b.highest 256) _ p.1 in
-      (leb-true b.lowest b.highest p.0, leb-true b.highest 256 q.0)
+  widths = grind (arith, nat_tests)
 
   -- a hook with wanted 1 is named
   wanted_named : (h : ℕ) → h < 256 → bit_of b.wanted h ≡ true → bit_of b.named h ≡ true
   wanted_named h top set =
-      let q = and_parts (nat_le b.highest 256) _ (and_parts (nat_le b.lowest b.highest) _ sound).1 in
-      let each = every_at (named_if_wanted b) 0 256 q.1 h (omega arith) top in
+      let all : every_between 0 256 (named_if_wanted b) ≡ true = grind (arith, nat_tests) in
+      let each = every_at (named_if_wanted b) 0 256 all h (omega arith) top in
       rw set at each
 
   -- the row of the highest width with the wanted bits meets, where every hook with wanted 1 lies below that width

@@ -1,6 +1,7 @@
 // Lists of tests. One is a kind: its test t is the t-th of the list.
 ghost use Rattle.std.specs.Prelude.{◌≡◌, ◌≤◌, true, not, [], ◌∷◌, length, IfOk, IfSome, vec_len, vec_capacity, slice_get};
 ghost use Rattle.std.specs.List.{list_all};
+ghost use Rattle.std.proofs.Common.{rules};
 ghost use Rattle.symbols.specs.Lists.{has_at, add_answer, added_to};
 ghost use Rattle.symbols.specs.ListLaws.{few_bounds, past_fails, first_meets, list_meetable, list_failable};
 
@@ -76,9 +77,9 @@ impl<T: SymbolTest> Kind for TestList<T> {
 
     ghost can_fail = { λ k t. not (has_at T.all_meet k.tests.items t) };
 
-    ghost bounds = { λ k. few_bounds _ _ k.tests.ok.0 k.some k.few };
+    ghost bounds = { Prim.search rules };
 
-    ghost past = { λ k t s h. past_fails (λ b. T.meets b s) k.tests.items t h };
+    ghost past = { Prim.search (rules, past_fails) };
 
     ghost every = { λ k s. first_meets T.meets T.sound T.can_meet T.all_meet T.some_symbol T.meetable T.failable k.tests.items k.sound k.first s };
 
