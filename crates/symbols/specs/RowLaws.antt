@@ -1,16 +1,16 @@
 -- Tests of rows: which rows meet one, and which of them some row meets or fails.
-use Rattle.std.specs.Prelude.{◌≡◌, ℕ, ◌<◌, ◌≤◌, true, false, not, ◌&&◌, replicate, Decides, ◌==◌, nat_lt, refl}
+use Rattle.std.specs.Prelude.{◌≡◌, ℕ, ◌<◌, ◌≤◌, true, false, not, replicate, Decides}
 use Rattle.std.proofs.Math.Bool.{Bool-set}
 use Rattle.std.proofs.Common.{inl, inr, arith}
 use Rattle.std.proofs.Math.Logic.{∥∥₁_elim}
 use Rattle.std.proofs.lemmas.Bool.Decides.{nat_tests}
-use Rattle.std.proofs.lemmas.Bool.{and_from, and_left, and_parts, and_right, cases_Bool, cases_lt, eq-eqb, eqb-true, le-ltb, lt-ltb, not_from_false, not-true, or_right, true≢false}
+use Rattle.std.proofs.lemmas.Bool.{cases_Bool, cases_lt, not-true, true≢false}
 use Rattle.symbols.specs.declared.row_kind.RowTest.{RowTest}
 use Rattle.symbols.specs.declared.rows.Row.{Row}
 use Rattle.symbols.specs.Hooks.{every_between, bit_of, none_from}
 use Rattle.symbols.specs.Kinds.{SomeMeets, SomeFails}
 use Rattle.symbols.specs.RowTests.{every_row, as_wanted, named_if_wanted, row_meets, is_sound, wants_below, is_every_row}
-use Rattle.symbols.specs.Rows.{fresh_row, hook_of, width_of}
+use Rattle.symbols.specs.Rows.{fresh_row, width_of}
 use Rattle.symbols.specs.Bits.{every_yes, every_at, every_no, bit_zeros, bit_ones, none_each, none_at, none_some}
 
 -- the widest row with no hook set
@@ -49,18 +49,12 @@ module _ (b : RowTest) (r : Row) where
   -- a test with widths 0 to 256 and no named hook is met by every row
   pub every_meets : is_every_row b ≡ true → row_meets b r ≡ true
   every_meets e =
-      let p = and_parts (b.lowest == 0) _ e in
-      let q = and_parts (b.highest == 256) _ p.1 in
-      let low = eqb-true b.lowest 0 p.0 in
-      let high = eqb-true b.highest 256 q.0 in
-      meets_from (omega arith) (omega arith) (λ h top. rw (none_at b.named 0 q.1 h (omega arith) top))
+      let none : none_from b.named 0 ≡ true = grind (arith, nat_tests) in
+      meets_from (grind (arith, nat_tests)) (grind (arith, nat_tests)) (λ h top. rw (none_at b.named 0 none h (omega arith) top))
 
 -- a test of widths 0 to 256 that is not the one that every row meets names some hook
 pub named_some : (b : RowTest) → b.lowest ≤ 0 → b.highest ≤ 256 → 256 ≤ b.highest → is_every_row b ≡ false → none_from b.named 0 ≡ false
-named_some b low top high e =
-    let l : b.lowest ≡ 0 = omega arith in
-    let h : b.highest ≡ 256 = omega arith in
-    rw (eq-eqb b.lowest 0 l, eq-eqb b.highest 256 h) at e
+named_some b low top high e = grind (arith, nat_tests)
 
 module _ (b : RowTest) (sound : is_sound b ≡ true) where
   -- the highest width is not below the lowest, and is at most 256
@@ -74,52 +68,35 @@ module _ (b : RowTest) (sound : is_sound b ≡ true) where
       let each = every_at (named_if_wanted b) 0 256 all h (omega arith) top in
       rw set at each
 
-  -- the row of the highest width with the wanted bits meets, where every hook with wanted 1 lies below that width
+  -- in the row of the highest width with the wanted bits each hook is as wanted, where every hook with wanted 1 lies below that width
+  inside_hook : wants_below b ≡ true → (h : ℕ) → h < 256 → as_wanted b (record { width = b.highest; bits = b.wanted }) h ≡ true
+  inside_hook below h top = grind (arith, nat_tests, none_at b.wanted b.highest below h, widths)
+
+  -- so that row meets
   pub inside_meets : wants_below b ≡ true → row_meets b (record { width = b.highest; bits = b.wanted }) ≡ true
   inside_meets below =
-      let row : Row = record { width = b.highest; bits = b.wanted } in
-      let high = widths.1 in
-      let low = widths.0 in
-      let same : width_of row ≡ b.highest = omega arith in
-      meets_from b row (omega arith) (omega arith) (λ h top. or_right (not (bit_of b.named h)) _ (elim (cases_Bool (bit_of b.wanted h)) [
-        | inl set ↦ elim (cases_lt h b.highest) [
-          | inl l ↦ rw (same, set, lt-ltb h b.highest l)
-          | inr l ↦ let unset = none_at b.wanted b.highest below h l top in absurd (true≢false (cc))
-        ]
-        | inr unset ↦ rw unset (not_from_false (nat_lt h (width_of row) && false) (and_right (nat_lt h (width_of row)) false refl))
-      ]))
+      let wide = widths in
+      meets_from b (record { width = b.highest; bits = b.wanted }) (omega arith) (omega arith) (inside_hook below)
 
   -- where a row meets, every hook with wanted 1 lies below the highest width
   meets_below : (r : Row) → row_meets b r ≡ true → wants_below b ≡ true
-  meets_below r e =
-      none_each b.wanted b.highest (λ h l top. elim (cases_Bool (bit_of b.wanted h)) [
-        | inl set ↦
-            let hook : hook_of r h ≡ false = and_left (nat_lt h (width_of r)) (bit_of r.bits h) (le-ltb h (width_of r) (omega (arith, meets_high b r e))) in
-            let each = meets_hook b r e h top in
-            let wanted : hook_of r h ≡ true = rw (wanted_named h top set, set) at each in
-            absurd (true≢false (cc))
-        | inr unset ↦ unset
-      ])
+  meets_below r e = none_each b.wanted b.highest (λ h l top. grind (arith, nat_tests, meets_high b r e, meets_hook b r e h top, wanted_named h top))
 
   -- where some hook has wanted 1, the widest row with no hook set fails
   pub blank_fails : none_from b.wanted 0 ≡ false → row_meets b blank ≡ false
   blank_fails some =
       let found = none_some b.wanted 0 some in
-      let h = found.0 in
-      let set = found.2 in
-      let named = wanted_named h found.1 set in
-      let hook : hook_of blank h ≡ false = and_right (nat_lt h (width_of blank)) _ (bit_zeros 32 h) in
-      hook_fails b blank h found.1 (rw (named, set) hook)
+      let named = wanted_named found.0 found.1 found.2 in
+      let unset = bit_zeros 32 found.0 in
+      hook_fails b blank found.0 found.1 (grind (arith, nat_tests))
 
   -- where no hook has wanted 1 and some hook is named, the widest row with every hook set fails
   pub full_fails : none_from b.wanted 0 ≡ true → none_from b.named 0 ≡ false → row_meets b full ≡ false
   full_fails none some =
       let found = none_some b.named 0 some in
-      let h = found.0 in
-      let named = found.2 in
-      let unset = none_at b.wanted 0 none h (omega arith) found.1 in
-      let hook : hook_of full h ≡ true = and_from (nat_lt h (width_of full)) _ (lt-ltb h 256 found.1) (bit_ones h found.1) in
-      hook_fails b full h found.1 (rw (named, unset, hook))
+      let unset = none_at b.wanted 0 none found.0 (omega arith) found.1 in
+      let set = bit_ones found.0 found.1 in
+      hook_fails b full found.0 found.1 (grind (arith, nat_tests))
 
   -- where the test is not the one that every row meets, one of three rows fails it
   some_fails : is_every_row b ≡ false → (r : Row) × (row_meets b r ≡ false)
