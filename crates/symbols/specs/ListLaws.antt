@@ -2,17 +2,13 @@
 use Rattle.std.specs.Prelude.{◌≡◌, ℕ, zero, suc, ◌≤◌, Bool, true, false, not, List, [], ◌∷◌, length, None, Some, Option, Decides, slice_get, refl}
 use Rattle.std.specs.List.{list_all}
 use Rattle.std.specs.Option.{option_map_or}
-use Rattle.std.proofs.Common.{inl, inr, arith}
+use Rattle.std.proofs.Common.{inl, inr}
 use Rattle.std.proofs.Math.Bool.{Bool-set}
 use Rattle.std.proofs.Math.Logic.{∥∥₁_elim}
-use Rattle.std.proofs.lemmas.Bool.{and_parts, cases_Bool, not_from_true, true≢false, false≢true}
+use Rattle.std.proofs.lemmas.Bool.{and_parts, both_ways, cases_Bool, not-true, false≢true}
 use Rattle.std.proofs.lemmas.Option.{slice_get_past}
 use Rattle.symbols.specs.Kinds.{SomeMeets, SomeFails}
 use Rattle.symbols.specs.Lists.{has_at}
-
--- a list of 1 to 64 tests has 1 to 256
-pub few_bounds : (count size : ℕ) → count ≡ size → 1 ≤ count → count ≤ 64 → (1 ≤ size) × (size ≤ 256)
-few_bounds count size same some few = (omega arith, omega arith)
 
 -- a number past the list is that of no test
 pub past_fails : {B : Type 0} (passes : B → Bool) (list : List B) (t : ℕ) → length list ≤ t → has_at passes list t ≡ false
@@ -32,7 +28,7 @@ module _ {B S : Type 0} (meets : B → S → Bool) (sound can_meet all_meet : B 
   all_meets b is all s =
       elim (cases_Bool (meets b s)) [
         | inl y ↦ y
-        | inr n ↦ let fails = (failable b is).1 ∣ (s, n) ∣₁ in let no = not_from_true (all_meet b) all in absurd (true≢false (cc))
+        | inr n ↦ absurd (both_ways (all_meet b) (not-true (all_meet b) ((failable b is).1 ∣ (s, n) ∣₁)) all)
       ]
 
   -- what holds of each test that there may be at a place

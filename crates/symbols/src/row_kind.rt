@@ -125,6 +125,7 @@ impl SymbolTest for RowTest {
     }
 
     // A row of a width outside, or one with each wanted hook 0, or one with each hook 1.
+    #[tactic(auto, using(crate::specs::RowLaws::blank_fails, crate::specs::RowLaws::full_fails, crate::specs::RowLaws::named_some))]
     fn outside(&self) -> Row {
         if self.lowest > 0 {
             return Row::new();

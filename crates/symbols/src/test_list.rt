@@ -3,7 +3,7 @@ ghost use Rattle.std.specs.Prelude.{◌≡◌, ◌≤◌, true, not, [], ◌∷�
 ghost use Rattle.std.specs.List.{list_all};
 ghost use Rattle.std.proofs.Common.{rules};
 ghost use Rattle.symbols.specs.Lists.{has_at, add_answer, added_to};
-ghost use Rattle.symbols.specs.ListLaws.{few_bounds, past_fails, first_meets, list_meetable, list_failable};
+ghost use Rattle.symbols.specs.ListLaws.{past_fails, first_meets, list_meetable, list_failable};
 
 use crate::kind::Kind;
 use crate::showing::Showing;
