@@ -17,7 +17,7 @@ use refusals::Refusal;
 pub struct RowTest {
     pub lowest: u16,
     pub highest: u16,
-    // 32 bytes and no set beside a width: what is stored is of one size, and 32 bytes hold all 256 hooks
+    // two sets of 32 bytes and no list of hooks with a wanted bit: a rule of the project, fixed memory in the form that callers give
     pub named: [u8; 32],
     pub wanted: [u8; 32],
 }
