@@ -20,39 +20,30 @@ passes_at passes [] each t b is = cc
 passes_at passes (x ∷ xs) each zero b is = let p = (and_parts (passes x) _ each).0 in let e : x ≡ b = cc in cc
 passes_at passes (x ∷ xs) each (suc t) b is = passes_at passes xs (and_parts (passes x) _ each).1 t b is
 
-module _ {B S : Type 0} (meets : B → S → Bool) (sound can_meet all_meet : B → Bool) (some : S)
-    (meetable : (b : B) → sound b ≡ true → Decides (can_meet b) (SomeMeets (meets b)))
-    (failable : (b : B) → sound b ≡ true → Decides (not (all_meet b)) (SomeFails (meets b))) where
-  -- every symbol meets a sound test of which that is said
-  all_meets : (b : B) → sound b ≡ true → all_meet b ≡ true → (s : S) → meets b s ≡ true
-  all_meets b is all s =
-      elim (cases_Bool (meets b s)) [
-        | inl y ↦ y
-        | inr n ↦ absurd (both_ways (all_meet b) (not-true (all_meet b) ((failable b is).1 ∣ (s, n) ∣₁)) all)
-      ]
-
-  -- what holds of each test that there may be at a place
+module _ {B S : Type 0} {meets : B → S → Bool} {sound can_meet : B → Bool} (law : (b : B) → sound b ≡ true → Decides (can_meet b) (SomeMeets (meets b))) where
+  -- what holds of each sound test holds of the one that there may be at a place
   meetable_of : (o : Option B) → ((b : B) → o ≡ Some b → sound b ≡ true) → Decides (option_map_or can_meet o false) (SomeMeets (λ s. option_map_or (λ b. meets b s) o false))
   meetable_of None each = (λ e. absurd (false≢true e), λ h. ∥∥₁_elim h (Bool-set false true) (λ x. x.1))
-  meetable_of (Some b) each = meetable b (each b refl)
+  meetable_of (Some b) each = law b (each b refl)
 
-  failable_of : (o : Option B) → ((b : B) → o ≡ Some b → sound b ≡ true) → Decides (not (option_map_or all_meet o false)) (SomeFails (λ s. option_map_or (λ b. meets b s) o false))
-  failable_of None each = (λ _. ∣ (some, refl) ∣₁, λ _. refl)
-  failable_of (Some b) each = failable b (each b refl)
+  -- some symbol meets test t exactly where the list has one that can be met
+  pub list_meetable : (list : List B) → list_all sound list ≡ true → (t : ℕ) → Decides (has_at can_meet list t) (SomeMeets (λ s. has_at (λ b. meets b s) list t))
+  list_meetable list each t = meetable_of (slice_get list t) (passes_at sound list each t)
 
-  met_of : (o : Option B) → ((b : B) → o ≡ Some b → sound b ≡ true) → option_map_or all_meet o false ≡ true → (s : S) → option_map_or (λ b. meets b s) o false ≡ true
-  met_of None each all s = absurd (false≢true all)
-  met_of (Some b) each all s = all_meets b (each b refl) all s
+module _ {B S : Type 0} {meets : B → S → Bool} {sound : B → Bool} (all_meet : B → Bool) (law : (b : B) → sound b ≡ true → Decides (not (all_meet b)) (SomeFails (meets b))) where
+  -- what holds of each sound test holds of the one that there may be at a place; past the list every symbol fails
+  failable_of : S → (o : Option B) → ((b : B) → o ≡ Some b → sound b ≡ true) → Decides (not (option_map_or all_meet o false)) (SomeFails (λ s. option_map_or (λ b. meets b s) o false))
+  failable_of some None each = (λ _. ∣ (some, refl) ∣₁, λ _. refl)
+  failable_of some (Some b) each = law b (each b refl)
 
-  module _ (list : List B) (each : list_all sound list ≡ true) where
-    -- every symbol meets the first test
-    pub first_meets : has_at all_meet list 0 ≡ true → (s : S) → has_at (λ b. meets b s) list 0 ≡ true
-    first_meets all s = met_of (slice_get list 0) (passes_at sound list each 0) all s
+  -- some symbol fails test t exactly where the list has none there that every symbol meets
+  pub list_failable : S → (list : List B) → list_all sound list ≡ true → (t : ℕ) → Decides (not (has_at all_meet list t)) (SomeFails (λ s. has_at (λ b. meets b s) list t))
+  list_failable some list each t = failable_of some (slice_get list t) (passes_at sound list each t)
 
-    -- some symbol meets test t exactly where the list has one that can be met
-    pub list_meetable : (t : ℕ) → Decides (has_at can_meet list t) (SomeMeets (λ s. has_at (λ b. meets b s) list t))
-    list_meetable t = meetable_of (slice_get list t) (passes_at sound list each t)
-
-    -- some symbol fails test t exactly where the list has none there that every symbol meets
-    pub list_failable : (t : ℕ) → Decides (not (has_at all_meet list t)) (SomeFails (λ s. has_at (λ b. meets b s) list t))
-    list_failable t = failable_of (slice_get list t) (passes_at sound list each t)
+  -- every symbol meets test t where it is one that every symbol meets
+  pub list_met : (list : List B) → list_all sound list ≡ true → (t : ℕ) → has_at all_meet list t ≡ true → (s : S) → has_at (λ b. meets b s) list t ≡ true
+  list_met list each t all s =
+      elim (cases_Bool (has_at (λ b. meets b s) list t)) [
+        | inl y ↦ y
+        | inr n ↦ absurd (both_ways (has_at all_meet list t) (not-true (has_at all_meet list t) ((list_failable s list each t).1 ∣ (s, n) ∣₁)) all)
+      ]

@@ -3,7 +3,7 @@ ghost use Rattle.std.specs.Prelude.{◌≡◌, ◌≤◌, true, not, [], ◌∷�
 ghost use Rattle.std.specs.List.{list_all};
 ghost use Rattle.std.proofs.Common.{rules};
 ghost use Rattle.symbols.specs.Lists.{has_at, add_answer, added_to};
-ghost use Rattle.symbols.specs.ListLaws.{past_fails, first_meets, list_meetable, list_failable};
+ghost use Rattle.symbols.specs.ListLaws.{past_fails, list_meetable, list_failable, list_met};
 
 use crate::kind::Kind;
 use crate::showing::Showing;
@@ -81,13 +81,13 @@ impl<T: SymbolTest> Kind for TestList<T> {
 
     ghost past = { Prim.search (rules, past_fails) };
 
-    ghost every = { λ k s. first_meets T.meets T.sound T.can_meet T.all_meet T.some_symbol T.meetable T.failable k.tests.items k.sound k.first s };
+    ghost every = { λ k s. list_met T.all_meet T.failable k.tests.items k.sound 0 k.first s };
 
     ghost inhabited = { λ k. ∣ T.some_symbol ∣₁ };
 
-    ghost meetable = { λ k t. list_meetable T.meets T.sound T.can_meet T.all_meet T.some_symbol T.meetable T.failable k.tests.items k.sound t };
+    ghost meetable = { λ k t. list_meetable T.meetable k.tests.items k.sound t };
 
-    ghost failable = { λ k t. list_failable T.meets T.sound T.can_meet T.all_meet T.some_symbol T.meetable T.failable k.tests.items k.sound t };
+    ghost failable = { λ k t. list_failable T.all_meet T.failable T.some_symbol k.tests.items k.sound t };
 
     fn tests(&self) -> usize {
         self.tests.len()
