@@ -10,7 +10,7 @@ use Rattle.symbols.specs.declared.turned.Place.TheVariants.{Same, Opposite, Past
 use Rattle.symbols.specs.Kinds.{SomeMeets, SomeFails}
 use Rattle.symbols.specs.Turned.{at_place}
 
-module _ {S : Type 0} (meets : ℕ → S → Bool) (can_meet can_fail : ℕ → Bool) (some : ∥ S ∥₁)
+module _ {S : Type 0} {meets : ℕ → S → Bool} {can_meet can_fail : ℕ → Bool} (some : ∥ S ∥₁)
     (meetable : (t : ℕ) → Decides (can_meet t) (SomeMeets (meets t)))
     (failable : (t : ℕ) → Decides (can_fail t) (SomeFails (meets t))) where
   -- some symbol meets the test at a place exactly where it can be met there

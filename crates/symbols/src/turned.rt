@@ -93,9 +93,9 @@ impl<K: Kind> Kind for Turned<K> {
 
     ghost inhabited = { Prim.search rules };
 
-    ghost meetable = { λ k t. place_meetable (K.Kind.meets k.kind) (K.Kind.can_meet k.kind) (K.Kind.can_fail k.kind) (K.Kind.inhabited k.kind) (K.Kind.meetable k.kind) (K.Kind.failable k.kind) (place_of (half_of (K.Kind.count k.kind)) t) };
+    ghost meetable = { λ k t. place_meetable (K.Kind.inhabited k.kind) (K.Kind.meetable k.kind) (K.Kind.failable k.kind) (place_of (half_of (K.Kind.count k.kind)) t) };
 
-    ghost failable = { λ k t. place_failable (K.Kind.meets k.kind) (K.Kind.can_meet k.kind) (K.Kind.can_fail k.kind) (K.Kind.inhabited k.kind) (K.Kind.meetable k.kind) (K.Kind.failable k.kind) (place_of (half_of (K.Kind.count k.kind)) t) };
+    ghost failable = { λ k t. place_failable (K.Kind.inhabited k.kind) (K.Kind.meetable k.kind) (K.Kind.failable k.kind) (place_of (half_of (K.Kind.count k.kind)) t) };
 
     fn tests(&self) -> usize {
         2 * self.half() as usize
