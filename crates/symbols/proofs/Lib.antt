@@ -1,2 +1,2 @@
-mod Added
-mod Loads
+pub mod Added
+pub mod Loads

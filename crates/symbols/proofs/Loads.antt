@@ -2,7 +2,8 @@
 use Rattle.std.proofs.Common.{◌≡◌, ℕ, ◌-◌, ◌/◌, ◌≤◌, true, false, List, ◌++◌, length, get_or, replicate, is_ok, sym, refl, ap, inl, inr, arith}
 use borrow.Rule.Slice.PartMut.{post_of}
 use Rattle.std.proofs.lemmas.List.{get_or_append_left, get_or-append_right, get_or_past, drop-replicate}
-use Rattle.std.proofs.lemmas.Bool.{cases_Bool, cases_eq, cases_lt, eq-eqb, false≢true, le-ltb, lt-ltb, ne_eqb}
+use Rattle.std.proofs.lemmas.Bool.{cases_lt, le-ltb, lt-ltb}
+use Rattle.std.proofs.lemmas.Bool.Decides.{nat_tests}
 use Rattle.symbols.specs.Hooks.{bit_of, none_from}
 use Rattle.symbols.specs.Rows.{hook_of, width_of, bytes_for, padded_to32, load_result}
 use Rattle.symbols.specs.Bits.{bit_past, get_or_zeros, none_at}
@@ -29,27 +30,15 @@ bit_padded bytes n h =
 module _ (width : ℕ) (bytes bits : List ℕ) (ok : is_ok (load_result width bytes) ≡ true) (same : bits ≡ padded_to32 bytes) where
   -- what can be loaded has a width of at most 256
   narrow : width ≤ 256
-  narrow =
-      elim (cases_lt 256 width) [
-        | inl l ↦ let bad = rw (lt-ltb 256 width l) at ok in absurd (false≢true bad)
-        | inr l ↦ l
-      ]
+  narrow = grind (arith, nat_tests)
 
   -- it has as many bytes as go with the width
   enough : length bytes ≡ bytes_for width
-  enough =
-      elim (cases_eq (length bytes) (bytes_for width)) [
-        | inl e ↦ e
-        | inr e ↦ let bad = rw (le-ltb 256 width narrow, ne_eqb (length bytes) (bytes_for width) e) at ok in absurd (false≢true bad)
-      ]
+  enough = grind (arith, nat_tests)
 
   -- it has no bit at or above the width
   none : none_from bytes width ≡ true
-  none =
-      elim (cases_Bool (none_from bytes width)) [
-        | inl e ↦ e
-        | inr e ↦ let bad = rw (le-ltb 256 width narrow, eq-eqb (length bytes) (bytes_for width) enough, e) at ok in absurd (false≢true bad)
-      ]
+  none = grind (arith, nat_tests)
 
   -- the width is the one that was given
   pub loaded_width : width_of (record { width = width; bits = bits }) ≡ width
@@ -59,7 +48,7 @@ module _ (width : ℕ) (bytes bits : List ℕ) (ok : is_ok (load_result width by
   past_width : (h : ℕ) → width ≤ h → bit_of bytes h ≡ false
   past_width h l =
       elim (cases_lt h 256) [
-        | inl low ↦ none_at bytes width none h low l
+        | inl low ↦ none_at bytes width none h l low
         | inr high ↦ bit_past bytes h (omega (arith, narrow, enough))
       ]
 

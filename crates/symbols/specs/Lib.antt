@@ -5,7 +5,8 @@ pub mod Lists
 pub mod RowTests
 pub mod Rows
 pub mod Turned
-pub mod Ranges
+pub mod ByteLaws
+pub mod ListLaws
 pub mod RowLaws
 pub mod Bits
 pub mod Opposites

@@ -1,24 +1,16 @@
 -- At every place of a turned kind, what can be met and what can be failed is exactly what some symbol meets or fails.
 -- Past the tests any symbol shows a failure.
-use Rattle.std.specs.Prelude.{◌≡◌, ℕ, Bool, true, false, not, Decides, refl}
+use Rattle.std.specs.Prelude.{ℕ, Bool, true, false, not, Decides, refl}
 use Rattle.std.proofs.Math.Bool.{Bool-set}
 use Rattle.std.proofs.Math.Logic.{∥∥₁_elim, ∥∥₁_map}
 use Rattle.std.proofs.lemmas.Bool.{not-true, not-false, not_from_true, not_from_false, true≢false}
 use Rattle.std.proofs.lemmas.Bool.Decides.{Decides-like}
 use Rattle.symbols.specs.declared.turned.Place.{Place}
 use Rattle.symbols.specs.declared.turned.Place.TheVariants.{Same, Opposite, Past}
-use Rattle.symbols.specs.Kinds.{SomeMeets, SomeFails, Shown}
+use Rattle.symbols.specs.Kinds.{SomeMeets, SomeFails}
 use Rattle.symbols.specs.Turned.{at_place}
 
--- past the tests the answer is yes
-pub past_answer : (same opposite : ℕ → Bool) (p : Place) → Past ≡ p → (b : Bool) → b ≡ true → b ≡ at_place same opposite true p
-past_answer same opposite p e b y = rw (y, ← e)
-
--- past the tests every symbol fails
-pub past_shown : {S : Type 0} (meets : ℕ → S → Bool) (p : Place) → Past ≡ p → (before after : S) (b : Bool) → b ≡ true → Shown (λ s. at_place (λ u. meets u s) (λ u. not (meets u s)) false p) false before after b
-past_shown meets p e before after b y = rw (y, ← e)
-
-module _ {S : Type 0} (meets : ℕ → S → Bool) (can_meet can_fail : ℕ → Bool) (some : ∥ S ∥₁)
+module _ {S : Type 0} {meets : ℕ → S → Bool} {can_meet can_fail : ℕ → Bool} (some : ∥ S ∥₁)
     (meetable : (t : ℕ) → Decides (can_meet t) (SomeMeets (meets t)))
     (failable : (t : ℕ) → Decides (can_fail t) (SomeFails (meets t))) where
   -- some symbol meets the test at a place exactly where it can be met there
@@ -40,7 +32,3 @@ module _ {S : Type 0} (meets : ℕ → S → Bool) (can_meet can_fail : ℕ → 
       (λ h. ∥∥₁_map h (λ x. (x.0, not-false (meets u x.0) x.1)))
       (meetable u)
   place_failable Past = (λ _. ∥∥₁_map some (λ s. (s, refl)), λ _. refl)
-
-  -- a test that every symbol meets can be met
-  pub every_meetable : (t : ℕ) → ((s : S) → meets t s ≡ true) → can_meet t ≡ true
-  every_meetable t every = (meetable t).1 (∥∥₁_map some (λ s. (s, every s)))

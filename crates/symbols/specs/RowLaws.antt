@@ -1,16 +1,16 @@
--- Tests of rows: which rows meet one, what stands past a list, and which tests some row meets or fails.
-use Rattle.std.specs.Prelude.{◌≡◌, ℕ, ◌<◌, ◌≤◌, true, false, not, ◌&&◌, List, length, replicate, Decides, ◌==◌, nat_le, nat_lt, refl}
+-- Tests of rows: which rows meet one, and which of them some row meets or fails.
+use Rattle.std.specs.Prelude.{◌≡◌, ℕ, ◌<◌, ◌≤◌, true, false, not, replicate, Decides}
 use Rattle.std.proofs.Math.Bool.{Bool-set}
 use Rattle.std.proofs.Common.{inl, inr, arith}
 use Rattle.std.proofs.Math.Logic.{∥∥₁_elim}
-use Rattle.std.proofs.lemmas.List.{get_or_past}
-use Rattle.std.proofs.lemmas.Bool.{and_from, and_left, and_parts, and_right, cases_Bool, cases_lt, eq-eqb, eqb-true, le-leb, le-ltb, leb-true, lt-leb, lt-ltb, ltb-true, not_from_false, not-true, or_right, true≢false}
+use Rattle.std.proofs.lemmas.Bool.Decides.{nat_tests}
+use Rattle.std.proofs.lemmas.Bool.{cases_Bool, cases_lt, not-true, true≢false}
 use Rattle.symbols.specs.declared.row_kind.RowTest.{RowTest}
 use Rattle.symbols.specs.declared.rows.Row.{Row}
-use Rattle.symbols.specs.Hooks.{bit_of, none_from}
+use Rattle.symbols.specs.Hooks.{every_between, bit_of, none_from}
 use Rattle.symbols.specs.Kinds.{SomeMeets, SomeFails}
-use Rattle.symbols.specs.RowTests.{AllSoundRows, every_row, no_row, row_test_at, as_wanted, named_if_wanted, row_meets, is_sound, wants_below, is_every_row}
-use Rattle.symbols.specs.Rows.{fresh_row, hook_of, width_of}
+use Rattle.symbols.specs.RowTests.{every_row, as_wanted, named_if_wanted, row_meets, is_sound, wants_below, is_every_row}
+use Rattle.symbols.specs.Rows.{fresh_row, width_of}
 use Rattle.symbols.specs.Bits.{every_yes, every_at, every_no, bit_zeros, bit_ones, none_each, none_at, none_some}
 
 -- the widest row with no hook set
@@ -24,115 +24,79 @@ full = record { width = 256; bits = replicate 32 255 }
 module _ (b : RowTest) (r : Row) where
   -- a row of a width below the lowest fails
   pub narrow_fails : width_of r < b.lowest → row_meets b r ≡ false
-  narrow_fails l = and_left (nat_le b.lowest (width_of r)) _ (lt-leb b.lowest (width_of r) l)
+  narrow_fails l = grind (arith, nat_tests)
 
   -- a row of a width above the highest fails
   pub wide_fails : b.highest < width_of r → row_meets b r ≡ false
-  wide_fails l = and_right (nat_le b.lowest (width_of r)) _ (and_left (nat_le (width_of r) b.highest) _ (lt-leb (width_of r) b.highest l))
+  wide_fails l = grind (arith, nat_tests)
 
   -- a row with a hook that is not as wanted fails
   hook_fails : (h : ℕ) → h < 256 → as_wanted b r h ≡ false → row_meets b r ≡ false
-  hook_fails h top e =
-      and_right (nat_le b.lowest (width_of r)) _ (and_right (nat_le (width_of r) b.highest) _ (every_no (as_wanted b r) 256 h top e))
+  hook_fails h top e = let some = every_no (as_wanted b r) 0 256 h (omega arith) top e in grind (arith, nat_tests)
 
   -- a row of a width between, with each hook as wanted, meets
   meets_from : b.lowest ≤ width_of r → width_of r ≤ b.highest → ((h : ℕ) → h < 256 → as_wanted b r h ≡ true) → row_meets b r ≡ true
-  meets_from low high each =
-      and_from (nat_le b.lowest (width_of r)) _ (le-leb b.lowest (width_of r) low)
-      (and_from (nat_le (width_of r) b.highest) _ (le-leb (width_of r) b.highest high) (every_yes (as_wanted b r) 256 each))
+  meets_from low high each = let all = every_yes (as_wanted b r) 0 256 (λ h _ top. each h top) in grind (arith, nat_tests)
 
   -- a row that meets has no more than the highest width
   meets_high : row_meets b r ≡ true → width_of r ≤ b.highest
-  meets_high e = leb-true (width_of r) b.highest (and_parts (nat_le (width_of r) b.highest) _ (and_parts (nat_le b.lowest (width_of r)) _ e).1).0
+  meets_high e = grind (arith, nat_tests)
 
   -- in a row that meets each hook is as wanted
   meets_hook : row_meets b r ≡ true → (h : ℕ) → h < 256 → as_wanted b r h ≡ true
-  meets_hook e h top =
-      every_at (as_wanted b r) 256 (and_parts (nat_le (width_of r) b.highest) _ (and_parts (nat_le b.lowest (width_of r)) _ e).1).1 h top
+  meets_hook e h top = let all : every_between 0 256 (as_wanted b r) ≡ true = grind (arith, nat_tests) in every_at (as_wanted b r) 0 256 all h (omega arith) top
 
   -- a test with widths 0 to 256 and no named hook is met by every row
   pub every_meets : is_every_row b ≡ true → row_meets b r ≡ true
   every_meets e =
-      let p = and_parts (b.lowest == 0) _ e in
-      let q = and_parts (b.highest == 256) _ p.1 in
-      let low = eqb-true b.lowest 0 p.0 in
-      let high = eqb-true b.highest 256 q.0 in
-      meets_from (omega arith) (omega arith) (λ h top. rw (none_at b.named 0 q.1 h top (omega arith)))
+      let none : none_from b.named 0 ≡ true = grind (arith, nat_tests) in
+      meets_from (grind (arith, nat_tests)) (grind (arith, nat_tests)) (λ h top. rw (none_at b.named 0 none h (omega arith) top))
 
 -- a test of widths 0 to 256 that is not the one that every row meets names some hook
 pub named_some : (b : RowTest) → b.lowest ≤ 0 → b.highest ≤ 256 → 256 ≤ b.highest → is_every_row b ≡ false → none_from b.named 0 ≡ false
-named_some b low top high e =
-    let l : b.lowest ≡ 0 = omega arith in
-    let h : b.highest ≡ 256 = omega arith in
-    rw (eq-eqb b.lowest 0 l, eq-eqb b.highest 256 h) at e
+named_some b low top high e = grind (arith, nat_tests)
 
 module _ (b : RowTest) (sound : is_sound b ≡ true) where
   -- the highest width is not below the lowest, and is at most 256
   pub widths : (b.lowest ≤ b.highest) × (b.highest ≤ 256)
-  widths =
-      let p = and_parts (nat_le b.lowest b.highest) _ sound in
-      let q = and_parts (nat_le b.highest 256) _ p.1 in
-      (leb-true b.lowest b.highest p.0, leb-true b.highest 256 q.0)
+  widths = grind (arith, nat_tests)
 
   -- a hook with wanted 1 is named
   wanted_named : (h : ℕ) → h < 256 → bit_of b.wanted h ≡ true → bit_of b.named h ≡ true
   wanted_named h top set =
-      let q = and_parts (nat_le b.highest 256) _ (and_parts (nat_le b.lowest b.highest) _ sound).1 in
-      let each = every_at (named_if_wanted b) 256 q.1 h top in
+      let all : every_between 0 256 (named_if_wanted b) ≡ true = grind (arith, nat_tests) in
+      let each = every_at (named_if_wanted b) 0 256 all h (omega arith) top in
       rw set at each
 
-  -- the row of the highest width with the wanted bits meets, where every hook with wanted 1 lies below that width
+  -- in the row of the highest width with the wanted bits each hook is as wanted, where every hook with wanted 1 lies below that width
+  inside_hook : wants_below b ≡ true → (h : ℕ) → h < 256 → as_wanted b (record { width = b.highest; bits = b.wanted }) h ≡ true
+  inside_hook below h top = grind (arith, nat_tests, none_at b.wanted b.highest below h, widths)
+
+  -- so that row meets
   pub inside_meets : wants_below b ≡ true → row_meets b (record { width = b.highest; bits = b.wanted }) ≡ true
   inside_meets below =
-      let row : Row = record { width = b.highest; bits = b.wanted } in
-      let high = widths.1 in
-      let low = widths.0 in
-      let same : width_of row ≡ b.highest = omega arith in
-      meets_from b row (omega arith) (omega arith) (λ h top. or_right (not (bit_of b.named h)) _ (elim (cases_Bool (bit_of b.wanted h)) [
-        | inl set ↦ elim (cases_lt h b.highest) [
-          | inl l ↦ rw (same, set, lt-ltb h b.highest l)
-          | inr l ↦ let unset = none_at b.wanted b.highest below h top l in absurd (true≢false (cc))
-        ]
-        | inr unset ↦ rw unset (not_from_false (nat_lt h (width_of row) && false) (and_right (nat_lt h (width_of row)) false refl))
-      ]))
-
-  -- so it does where it comes from a test that is the same
-  pub inside_shown : (test : RowTest) → test ≡ b → wants_below test ≡ true → (row : Row) → row ≡ record { width = test.highest; bits = test.wanted } → row_meets b row ≡ true
-  inside_shown test same below row is =
-      let known : wants_below b ≡ true = rw same at below in
-      rw (is, same) (inside_meets known)
+      let wide = widths in
+      meets_from b (record { width = b.highest; bits = b.wanted }) (omega arith) (omega arith) (inside_hook below)
 
   -- where a row meets, every hook with wanted 1 lies below the highest width
   meets_below : (r : Row) → row_meets b r ≡ true → wants_below b ≡ true
-  meets_below r e =
-      none_each b.wanted b.highest (λ h top l. elim (cases_Bool (bit_of b.wanted h)) [
-        | inl set ↦
-            let hook : hook_of r h ≡ false = and_left (nat_lt h (width_of r)) (bit_of r.bits h) (le-ltb h (width_of r) (omega (arith, meets_high b r e))) in
-            let each = meets_hook b r e h top in
-            let wanted : hook_of r h ≡ true = rw (wanted_named h top set, set) at each in
-            absurd (true≢false (cc))
-        | inr unset ↦ unset
-      ])
+  meets_below r e = none_each b.wanted b.highest (λ h l top. grind (arith, nat_tests, meets_high b r e, meets_hook b r e h top, wanted_named h top))
 
   -- where some hook has wanted 1, the widest row with no hook set fails
   pub blank_fails : none_from b.wanted 0 ≡ false → row_meets b blank ≡ false
   blank_fails some =
       let found = none_some b.wanted 0 some in
-      let h = found.0 in
-      let set = found.2 in
-      let named = wanted_named h found.1 set in
-      let hook : hook_of blank h ≡ false = and_right (nat_lt h (width_of blank)) _ (bit_zeros 32 h) in
-      hook_fails b blank h found.1 (rw (named, set) hook)
+      let named = wanted_named found.0 found.1 found.2 in
+      let unset = bit_zeros 32 found.0 in
+      hook_fails b blank found.0 found.1 (grind (arith, nat_tests))
 
   -- where no hook has wanted 1 and some hook is named, the widest row with every hook set fails
   pub full_fails : none_from b.wanted 0 ≡ true → none_from b.named 0 ≡ false → row_meets b full ≡ false
   full_fails none some =
       let found = none_some b.named 0 some in
-      let h = found.0 in
-      let named = found.2 in
-      let unset = none_at b.wanted 0 none h found.1 (omega arith) in
-      let hook : hook_of full h ≡ true = and_from (nat_lt h (width_of full)) _ (lt-ltb h 256 found.1) (bit_ones h found.1) in
-      hook_fails b full h found.1 (rw (named, unset, hook))
+      let unset = none_at b.wanted 0 none found.0 (omega arith) found.1 in
+      let set = bit_ones found.0 found.1 in
+      hook_fails b full found.0 found.1 (grind (arith, nat_tests))
 
   -- where the test is not the one that every row meets, one of three rows fails it
   some_fails : is_every_row b ≡ false → (r : Row) × (row_meets b r ≡ false)
@@ -148,54 +112,28 @@ module _ (b : RowTest) (sound : is_sound b ≡ true) where
         ]
       ]
 
--- no row meets the test of widths 1 to 0
-no_row_lem : (r : Row) → row_meets no_row r ≡ false
-no_row_lem r = elim (cases_lt (width_of r) 1) [ inl l ↦ narrow_fails no_row r l | inr l ↦ wide_fails no_row r l ]
-
 -- the test of widths 0 to 256 that names no hook is the one that every row meets
-every_is : is_every_row every_row ≡ true
+pub every_is : is_every_row every_row ≡ true
 every_is = none_each (replicate 32 0) 0 (λ h _ _. bit_zeros 32 h)
 
 -- it keeps the rules of tests
 pub every_sound : is_sound every_row ≡ true
-every_sound = every_yes (named_if_wanted every_row) 256 (λ h _. rw (bit_zeros 32 h))
+every_sound = every_yes (named_if_wanted every_row) 0 256 (λ h _ _. rw (bit_zeros 32 h))
 
--- every row meets test 0
-pub first_meets : (list : List RowTest) (r : Row) → row_test_at list 0 ≡ every_row → row_meets (row_test_at list 0) r ≡ true
-first_meets list r e = rw e (every_meets every_row r every_is)
-
-module _ (list : List RowTest) (t : ℕ) (past : length list ≤ t) where
-  -- every row fails a number past the list
-  pub past_row_fails : (r : Row) → row_meets (row_test_at list t) r ≡ false
-  past_row_fails r = rw (get_or_past list t no_row past) (no_row_lem r)
-
-  -- a number past the list is not the test that every row meets
-  pub past_row_avoidable : not (is_every_row (row_test_at list t)) ≡ true
-  past_row_avoidable = rw (get_or_past list t no_row past)
-
-module _ (list : List RowTest) (each : AllSoundRows list) (t : ℕ) where
-  -- some row meets test t exactly where the list has it and every hook with wanted 1 lies below its highest width
-  pub rows_meetable : Decides (nat_lt t (length list) && wants_below (row_test_at list t)) (SomeMeets (row_meets (row_test_at list t)))
-  rows_meetable = (
-    λ e.
-        let p = and_parts (nat_lt t (length list)) _ e in
-        let b = row_test_at list t in
-        ∣ (record { width = b.highest; bits = b.wanted }, inside_meets b (each t (ltb-true t (length list) p.0)) p.1) ∣₁,
-    λ h. ∥∥₁_elim h (Bool-set (nat_lt t (length list) && wants_below (row_test_at list t)) true) (λ x. elim (cases_lt t (length list)) [
-      | inl l ↦ and_from (nat_lt t (length list)) _ (lt-ltb t (length list) l) (meets_below (row_test_at list t) (each t l) x.0 x.1)
-      | inr l ↦ let p = past_row_fails list t l x.0 in let q = x.1 in absurd (true≢false (cc))
-    ]),
+module _ (b : RowTest) (sound : is_sound b ≡ true) where
+  -- some row meets a sound test exactly where every hook with wanted 1 lies below its highest width
+  pub row_meetable : Decides (wants_below b) (SomeMeets (row_meets b))
+  row_meetable = (
+    λ e. ∣ (record { width = b.highest; bits = b.wanted }, inside_meets b sound e) ∣₁,
+    λ h. ∥∥₁_elim h (Bool-set (wants_below b) true) (λ x. meets_below b sound x.0 x.1),
   )
 
-  -- some row fails test t exactly where it is not the one that every row meets
-  pub rows_failable : Decides (not (is_every_row (row_test_at list t))) (SomeFails (row_meets (row_test_at list t)))
-  rows_failable = (
-    λ e. elim (cases_lt t (length list)) [
-      | inl l ↦ ∣ some_fails (row_test_at list t) (each t l) (not-true (is_every_row (row_test_at list t)) e) ∣₁
-      | inr l ↦ ∣ (fresh_row, past_row_fails list t l fresh_row) ∣₁
-    ],
-    λ h. ∥∥₁_elim h (Bool-set (not (is_every_row (row_test_at list t))) true) (λ x. elim (cases_Bool (is_every_row (row_test_at list t))) [
-      | inl y ↦ let p = every_meets (row_test_at list t) x.0 y in let q = x.1 in absurd (true≢false (cc))
+  -- some row fails a sound test exactly where it is not the one that every row meets
+  pub row_failable : Decides (not (is_every_row b)) (SomeFails (row_meets b))
+  row_failable = (
+    λ e. ∣ some_fails b sound (not-true (is_every_row b) e) ∣₁,
+    λ h. ∥∥₁_elim h (Bool-set (not (is_every_row b)) true) (λ x. elim (cases_Bool (is_every_row b)) [
+      | inl y ↦ let p = every_meets b x.0 y in let q = x.1 in absurd (true≢false (cc))
       | inr y ↦ rw y
     ]),
   )

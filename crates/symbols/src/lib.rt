@@ -3,10 +3,11 @@
 
 mod bytes;
 mod kind;
-mod limits;
 mod row_kind;
 mod rows;
 mod showing;
+mod symbol_test;
+mod test_list;
 mod turned;
 
 pub use bytes::{ByteKind, ByteTest};

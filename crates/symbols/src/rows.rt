@@ -3,16 +3,17 @@ ghost use Rattle.std.specs.Prelude.{◌≡◌, ℕ, ◌/◌, ◌<◌, ◌≤◌,
 ghost use Rattle.symbols.specs.Hooks.{bit_of, none_from};
 ghost use Rattle.symbols.specs.Rows.{width_of, hook_of, fresh_row, padded_to32, load_result, load_after};
 
-use crate::limits::refused;
 use refusals::{Fault, Refusal};
 
 // The most hooks that a row has.
 pub(crate) const MAX_WIDTH: usize = 256;
 
 // A width from 0 to 256, and the hooks below it. A kept width over 256 reads as 256, and a kept bit at or above the width as 0.
+// No equality is derived: two rows are equal where they read the same, whatever is kept past the width.
 #[derive(Clone, Copy)]
 pub struct Row {
     width: u16,
+    // 32 bytes at every width: a rule of the project, fixed memory
     bits: [u8; 32],
 }
 
@@ -29,12 +30,7 @@ pub(crate) fn none_from(bytes: &[u8], start: usize) -> bool
     requires { length bytes.now ≤ 32 }
     ensures { result ≡ none_from bytes.now start }
 {
-    for h in start..8 * bytes.len() {
-        if bit(bytes, h) {
-            return false;
-        }
-    }
-    true
+    (start..8 * bytes.len()).all(|h| !bit(bytes, h))
 }
 
 impl Row {
@@ -86,13 +82,13 @@ fn loadable(width: usize, bytes: &[u8]) -> Result<(), Fault>
     ensures { result ≡ load_result width bytes.now }
 {
     if width > MAX_WIDTH {
-        return Err(refused(Refusal::TooWide));
+        return Err(Refusal::TooWide.at(0));
     }
     if bytes.len() != (width + 7) / 8 {
-        return Err(refused(Refusal::WrongLength));
+        return Err(Refusal::WrongLength.at(0));
     }
     if !none_from(bytes, width) {
-        return Err(refused(Refusal::BitPastWidth));
+        return Err(Refusal::BitPastWidth.at(0));
     }
     Ok(())
 }

@@ -6,7 +6,6 @@ ghost use Rattle.symbols.specs.Opposites.{place_meetable, place_failable};
 ghost use Rattle.std.proofs.Common.{rules};
 
 use crate::kind::Kind;
-use crate::limits::refused;
 use crate::showing::Showing;
 use refusals::{Fault, Refusal};
 
@@ -44,7 +43,7 @@ impl<K: Kind> Turned<K> {
     {
         if kind.tests() > MAX_TURNED {
             return Err(NotTurned {
-                fault: refused(Refusal::TooManyTests),
+                fault: Refusal::TooManyTests.at(0),
                 kind,
             });
         }
@@ -74,6 +73,7 @@ impl<K: Kind> Turned<K> {
 }
 
 // The tests of the kind beneath, and after them their opposites.
+// Each call matches the place itself: one helper would take what holds at each as a closure, and the arms would lose their names.
 impl<K: Kind> Kind for Turned<K> {
     type Symbol = K::Symbol;
 
@@ -93,9 +93,9 @@ impl<K: Kind> Kind for Turned<K> {
 
     ghost inhabited = { Prim.search rules };
 
-    ghost meetable = { λ k t. place_meetable (K.Kind.meets k.kind) (K.Kind.can_meet k.kind) (K.Kind.can_fail k.kind) (K.Kind.inhabited k.kind) (K.Kind.meetable k.kind) (K.Kind.failable k.kind) (place_of (half_of (K.Kind.count k.kind)) t) };
+    ghost meetable = { λ k t. place_meetable (K.Kind.inhabited k.kind) (K.Kind.meetable k.kind) (K.Kind.failable k.kind) (place_of (half_of (K.Kind.count k.kind)) t) };
 
-    ghost failable = { λ k t. place_failable (K.Kind.meets k.kind) (K.Kind.can_meet k.kind) (K.Kind.can_fail k.kind) (K.Kind.inhabited k.kind) (K.Kind.meetable k.kind) (K.Kind.failable k.kind) (place_of (half_of (K.Kind.count k.kind)) t) };
+    ghost failable = { λ k t. place_failable (K.Kind.inhabited k.kind) (K.Kind.meetable k.kind) (K.Kind.failable k.kind) (place_of (half_of (K.Kind.count k.kind)) t) };
 
     fn tests(&self) -> usize {
         2 * self.half() as usize

@@ -1,23 +1,23 @@
 // The kind of rows: its tests by number, and what can be met and failed.
-use crate::telling::{added, answers, refusal};
+use crate::telling::{answers, number};
 use std::test::Fail;
 use symbols::{Kind, Row, RowKind, RowTest};
 
-// Widths from the lowest to the highest, the first byte of the named hooks and of the wanted bits, and what adding the test answers.
-const TESTS: [(u16, u16, u8, u8, u16); 13] = [
-    (0, 256, 0, 0, 1),
-    (0, 255, 0, 0, 2),
-    (1, 256, 0, 0, 3),
-    (0, 256, 16, 0, 4),
-    (0, 256, 16, 16, 5),
-    (0, 5, 16, 16, 6),
-    (0, 4, 16, 16, 7),
-    (0, 4, 16, 0, 8),
-    (256, 256, 0, 0, 9),
-    (0, 0, 255, 0, 10),
-    (5, 4, 0, 0, 1045),
-    (0, 257, 0, 0, 1045),
-    (0, 256, 1, 3, 1045),
+// Widths from the lowest to the highest, the first byte of the named hooks and of the wanted bits, and what adding the test answers: its number, or that of the refusal.
+const TESTS: [(u16, u16, u8, u8, Result<u8, u8>); 13] = [
+    (0, 256, 0, 0, Ok(1)),
+    (0, 255, 0, 0, Ok(2)),
+    (1, 256, 0, 0, Ok(3)),
+    (0, 256, 16, 0, Ok(4)),
+    (0, 256, 16, 16, Ok(5)),
+    (0, 5, 16, 16, Ok(6)),
+    (0, 4, 16, 16, Ok(7)),
+    (0, 4, 16, 0, Ok(8)),
+    (256, 256, 0, 0, Ok(9)),
+    (0, 0, 255, 0, Ok(10)),
+    (5, 4, 0, 0, Err(45)),
+    (0, 257, 0, 0, Err(45)),
+    (0, 256, 1, 3, Err(45)),
 ];
 
 // A test of the kind of those, and whether it can be met and failed.
@@ -69,17 +69,21 @@ fn answers_of_rows(rt: HostRuntime) -> Result<(), Fail> {
     let mut kind = RowKind::new(rt.alloc())?;
     for (lowest, highest, named, wanted, answer) in TESTS {
         assert_eq!(rt;
-            added(kind.add(test_of(lowest, highest, named, wanted))),
+            kind.add(test_of(lowest, highest, named, wanted))
+                .map_err(number),
             answer
         );
     }
     for (t, possible, avoidable) in ANSWERS {
         let mut place = Row::new();
-        assert!(rt; answers(&kind, t, &mut place, possible, avoidable));
+        assert!(rt;
+            answers(&kind, t, &mut place, possible, avoidable),
+            "test {t}"
+        );
     }
     for (width, byte, t, meets) in MEETS {
         let mut row = Row::new();
-        assert_eq!(rt; refusal(row.load(width, &[byte])), 0);
+        assert_eq!(rt; row.load(width, &[byte]).map_err(number), Ok(()));
         assert_eq!(rt; kind.test(t, &row), meets);
     }
     Ok(())
@@ -88,13 +92,16 @@ fn answers_of_rows(rt: HostRuntime) -> Result<(), Fail> {
 #[test]
 fn sixty_four_of_rows(rt: HostRuntime) -> Result<(), Fail> {
     let mut kind = RowKind::new(rt.alloc())?;
-    for n in 1..64u16 {
-        assert_eq!(rt; added(kind.add(test_of(n, n, 0, 0))), n);
+    for n in 1..64u8 {
+        assert_eq!(rt;
+            kind.add(test_of(n as u16, n as u16, 0, 0)).map_err(number),
+            Ok(n)
+        );
     }
-    assert_eq!(rt; added(kind.add(test_of(5, 4, 0, 0))), 1046);
+    assert_eq!(rt; kind.add(test_of(5, 4, 0, 0)).map_err(number), Err(46));
     assert_eq!(rt; kind.tests(), 64);
     let mut row = Row::new();
-    assert_eq!(rt; refusal(row.load(63, &[0; 8])), 0);
+    assert_eq!(rt; row.load(63, &[0; 8]).map_err(number), Ok(()));
     assert!(rt; kind.test(63, &row) && !kind.test(62, &row) && !kind.test(64, &row));
     Ok(())
 }

@@ -1,58 +1,58 @@
 // Rows: loads at the edges, and what a row reads afterwards.
-use crate::telling::refusal;
+use crate::telling::number;
 use symbols::Row;
 
-// A width, how many bytes of 0 are given for it, and the number of the refusal, or 0.
-const LOADS: [(usize, usize, u8); 24] = [
-    (0, 0, 0),
-    (0, 1, 43),
-    (1, 1, 0),
-    (1, 0, 43),
-    (1, 2, 43),
-    (7, 1, 0),
-    (7, 0, 43),
-    (8, 1, 0),
-    (8, 2, 43),
-    (9, 2, 0),
-    (9, 1, 43),
-    (9, 3, 43),
-    (255, 32, 0),
-    (255, 31, 43),
-    (255, 33, 43),
-    (256, 32, 0),
-    (256, 31, 43),
-    (256, 33, 43),
-    (257, 33, 42),
-    (257, 32, 42),
-    (257, 34, 42),
-    (65536, 0, 42),
-    (18446744073709551615, 0, 42),
-    (18446744073709551609, 1, 42),
+// A width, how many bytes of 0 are given for it, and what loading them answers.
+const LOADS: [(usize, usize, Result<(), u8>); 24] = [
+    (0, 0, Ok(())),
+    (0, 1, Err(43)),
+    (1, 1, Ok(())),
+    (1, 0, Err(43)),
+    (1, 2, Err(43)),
+    (7, 1, Ok(())),
+    (7, 0, Err(43)),
+    (8, 1, Ok(())),
+    (8, 2, Err(43)),
+    (9, 2, Ok(())),
+    (9, 1, Err(43)),
+    (9, 3, Err(43)),
+    (255, 32, Ok(())),
+    (255, 31, Err(43)),
+    (255, 33, Err(43)),
+    (256, 32, Ok(())),
+    (256, 31, Err(43)),
+    (256, 33, Err(43)),
+    (257, 33, Err(42)),
+    (257, 32, Err(42)),
+    (257, 34, Err(42)),
+    (65536, 0, Err(42)),
+    (18446744073709551615, 0, Err(42)),
+    (18446744073709551609, 1, Err(42)),
 ];
 
-// A width up to 8, the byte that is given for it, and the number of the refusal, or 0.
-const BITS: [(usize, u8, u8); 8] = [
-    (1, 1, 0),
-    (1, 2, 44),
-    (4, 15, 0),
-    (4, 16, 44),
-    (4, 255, 44),
-    (7, 127, 0),
-    (7, 128, 44),
-    (8, 255, 0),
+// A width up to 8, the byte that is given for it, and what loading it answers.
+const BITS: [(usize, u8, Result<(), u8>); 8] = [
+    (1, 1, Ok(())),
+    (1, 2, Err(44)),
+    (4, 15, Ok(())),
+    (4, 16, Err(44)),
+    (4, 255, Err(44)),
+    (7, 127, Ok(())),
+    (7, 128, Err(44)),
+    (8, 255, Ok(())),
 ];
 
 // A load has the width given, or is refused and leaves the row as it was.
 #[test]
 fn loads(rt: HostRuntime) {
     let zeros = [0u8; 40];
-    for (width, count, number) in LOADS {
+    for (width, count, answer) in LOADS {
         if count <= 40 {
             let mut row = Row::new();
-            assert_eq!(rt; refusal(row.load(3, &[5])), 0);
-            assert_eq!(rt; refusal(row.load(width, &zeros[0..count])), number);
-            assert_eq!(rt; row.width(), if number == 0 { width } else { 3 });
-            assert_eq!(rt; row.hook(2), number != 0);
+            assert_eq!(rt; row.load(3, &[5]).map_err(number), Ok(()));
+            assert_eq!(rt; row.load(width, &zeros[0..count]).map_err(number), answer);
+            assert_eq!(rt; row.width(), if answer.is_ok() { width } else { 3 });
+            assert_eq!(rt; row.hook(2), answer.is_err());
         }
     }
 }
@@ -60,10 +60,10 @@ fn loads(rt: HostRuntime) {
 // A bit at or above the width is refused.
 #[test]
 fn bits_at_the_width(rt: HostRuntime) {
-    for (width, byte, number) in BITS {
+    for (width, byte, answer) in BITS {
         let mut row = Row::new();
-        assert_eq!(rt; refusal(row.load(width, &[byte])), number);
-        assert_eq!(rt; row.hook(0), number == 0);
+        assert_eq!(rt; row.load(width, &[byte]).map_err(number), answer);
+        assert_eq!(rt; row.hook(0), answer.is_ok());
     }
 }
 
@@ -72,9 +72,9 @@ fn bits_at_the_width(rt: HostRuntime) {
 fn shorter_load(rt: HostRuntime) {
     let mut row = Row::new();
     assert!(rt; !row.hook(0) && row.width() == 0);
-    assert_eq!(rt; refusal(row.load(256, &[255; 32])), 0);
+    assert_eq!(rt; row.load(256, &[255; 32]).map_err(number), Ok(()));
     assert!(rt; row.hook(0) && row.hook(255) && !row.hook(256));
-    assert_eq!(rt; refusal(row.load(4, &[6])), 0);
+    assert_eq!(rt; row.load(4, &[6]).map_err(number), Ok(()));
     for h in 0..300usize {
         assert_eq!(rt; row.hook(h), h == 1 || h == 2);
     }
@@ -84,7 +84,7 @@ fn shorter_load(rt: HostRuntime) {
 #[test]
 fn hooks_by_number(rt: HostRuntime) {
     let mut row = Row::new();
-    assert_eq!(rt; refusal(row.load(20, &[1, 128, 4])), 0);
+    assert_eq!(rt; row.load(20, &[1, 128, 4]).map_err(number), Ok(()));
     for h in 0..300usize {
         assert_eq!(rt; row.hook(h), h == 0 || h == 15 || h == 18);
     }

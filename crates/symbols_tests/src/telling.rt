@@ -1,21 +1,15 @@
-// What the tests share: an answer as one number, and whether a kind answers so and shows what it says.
+// What the tests share: the number of a refusal, a test of bytes, and whether a kind answers so and shows what it says.
 use refusals::Fault;
-use symbols::Showing;
+use symbols::{ByteTest, Showing};
 
-// The number of a refusal, or 0.
-pub(crate) fn refusal(r: Result<(), Fault>) -> u8 {
-    match r {
-        Ok(()) => 0,
-        Err(fault) => fault.refusal.number(),
-    }
+// The number of the refusal of a fault.
+pub(crate) fn number(fault: Fault) -> u8 {
+    fault.refusal.number()
 }
 
-// The number of the test that was added, or 1000 and the number of the refusal.
-pub(crate) fn added(r: Result<u8, Fault>) -> u16 {
-    match r {
-        Ok(t) => t as u16,
-        Err(fault) => 1000 + fault.refusal.number() as u16,
-    }
+// The test of the bytes from the lowest to the highest.
+pub(crate) fn bytes(lowest: u8, highest: u8) -> ByteTest {
+    ByteTest { lowest, highest }
 }
 
 // Whether the kind says so of the test, and shows a symbol exactly where it says that there is one.
@@ -26,11 +20,10 @@ pub(crate) fn answers<K: Showing>(
     possible: bool,
     avoidable: bool,
 ) -> bool {
-    if kind.possible(t) != possible || kind.avoidable(t) != avoidable {
-        return false;
-    }
-    if kind.example(t, place) != possible || possible && !kind.test(t, place) {
-        return false;
-    }
-    kind.counterexample(t, place) == avoidable && (!avoidable || !kind.test(t, place))
+    kind.possible(t) == possible
+        && kind.avoidable(t) == avoidable
+        && kind.example(t, place) == possible
+        && (!possible || kind.test(t, place))
+        && kind.counterexample(t, place) == avoidable
+        && (!avoidable || !kind.test(t, place))
 }

@@ -1,6 +1,6 @@
 // Turned kinds: the opposites of tests, up to 256, and the refusal past 128.
 use crate::plain::Plain;
-use crate::telling::{added, answers};
+use crate::telling::{answers, bytes, number};
 use std::test::Fail;
 use symbols::{ByteKind, Kind, Turned};
 
@@ -17,12 +17,15 @@ const ANSWERS: [(u8, bool, bool); 6] = [
 #[test]
 fn opposites(rt: HostRuntime) -> Result<(), Fail> {
     let mut kind = ByteKind::new(rt.alloc())?;
-    assert_eq!(rt; added(kind.add(7, 9)), 1);
+    assert_eq!(rt; kind.add(bytes(7, 9)).map_err(number), Ok(1));
     match Turned::over(kind) {
         Ok(turned) => {
             for (t, possible, avoidable) in ANSWERS {
                 let mut place = 5;
-                assert!(rt; answers(&turned, t, &mut place, possible, avoidable));
+                assert!(rt;
+                    answers(&turned, t, &mut place, possible, avoidable),
+                    "test {t}"
+                );
             }
             assert!(rt;
                 turned.tests() == 4
@@ -40,7 +43,7 @@ fn opposites(rt: HostRuntime) -> Result<(), Fail> {
 fn turned_to_256(rt: HostRuntime) -> Result<(), Fail> {
     let mut kind = ByteKind::new(rt.alloc())?;
     for n in 1..64u8 {
-        assert_eq!(rt; added(kind.add(n, n)), n as u16);
+        assert_eq!(rt; kind.add(bytes(n, n)).map_err(number), Ok(n));
     }
     let Ok(once) = Turned::over(kind) else {
         return Err(Fail::new("64 tests are not turned"));

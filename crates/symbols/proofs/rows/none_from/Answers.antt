@@ -1,13 +1,13 @@
--- The test goes over every hook that the bytes hold from the start on.
-use Rattle.std.proofs.Common.{◌<◌, ◌≤◌, sym, arith}
-use Rattle.symbols.specs.Bits.{none_held, none_no}
+-- The chain goes over every hook that the bytes hold from the start on.
+use Rattle.std.proofs.Common.{◌*◌, not, length, refl, rules, ◌∙◌}
+use Rattle.std.proofs.lemmas.Iterator.{YieldsList-from_range}
+use Rattle.std.proofs.lemmas.Iterator.Search.{all_from_yields_List}
+use Rattle.symbols.specs.Hooks.{every_between, bit_of}
+use Rattle.symbols.specs.Bits.{none_held}
 use Rattle.symbols.proofs.rows.none_from.Goals as goal
 
-pub returns-then-bit : goal.returns-then-bit
-returns-then-bit c =
-    let low : c.loop-h.h < 256 = omega arith in
-    let high : c.args.start ≤ c.loop-h.h = omega arith in
-    sym (none_no c.args.bytes.now c.args.start c.loop-h.h low high (sym c.if-bit.ensures))
-
 pub returns : goal.returns
-returns c = sym (none_held c.args.bytes.now c.args.start (λ h l. c.loop-h.invariant h (omega arith)))
+unfolding every_between
+returns c =
+    all_from_yields_List (λ h. not (bit_of c.args.bytes.now h)) _ _ _ c.all.ensures.ran (YieldsList-from_range c.args.start (8 * length c.args.bytes.now) _ refl refl) (λ x b q k. search rules)
+    ∙ none_held c.args.bytes.now c.args.start c.requires

@@ -1,13 +1,11 @@
--- The test goes over all 256 hooks.
-use Rattle.std.proofs.Common.{◌<◌, sym, arith}
+-- The chain goes over all 256 hooks.
+use Rattle.std.proofs.Common.{refl, rules}
+use Rattle.std.proofs.lemmas.Iterator.{YieldsList-from_range}
+use Rattle.std.proofs.lemmas.Iterator.Search.{all_from_yields_List}
+use Rattle.symbols.specs.Hooks.{every_between}
 use Rattle.symbols.specs.RowTests.{named_if_wanted}
-use Rattle.symbols.specs.Bits.{every_yes, every_no}
 use Rattle.symbols.proofs.row_kind.RowTest.names_wanted.Goals as goal
 
-pub returns-then-not-names : goal.returns-then-not-names
-returns-then-not-names c =
-    let low : c.loop-h.h < 256 = omega arith in
-    sym (every_no (named_if_wanted c.args.self.now) 256 c.loop-h.h low (sym c.if-not-names.ensures))
-
 pub returns : goal.returns
-returns c = sym (every_yes (named_if_wanted c.args.self.now) 256 (λ h l. c.loop-h.invariant h (omega arith)))
+unfolding every_between
+returns c = all_from_yields_List (named_if_wanted c.args.self.now) _ _ _ c.all.ensures.ran (YieldsList-from_range 0 256 256 refl refl) (λ x b q k. search rules)
