@@ -1,5 +1,5 @@
 -- What the program prints, byte for byte.
-use Rattle.std.specs.Prelude.{◌≡◌, ℕ, zero, suc, Bool, false, not, List, [], ◌∷◌, ◌++◌, length, Some, None, codes, decimal, Option, nat_lt, slice_index, slice_index_or}
+use Rattle.std.specs.Prelude.{◌≡◌, ℕ, zero, suc, Bool, true, false, not, List, [], ◌∷◌, ◌++◌, length, Some, None, codes, decimal, Option, slice_index, slice_index_or}
 use Rattle.lockstep.specs.Next.{NextTable}
 use Rattle.lockstep.specs.Far.{FarTable}
 use Rattle.refusals.specs.declared.Fault.{Fault}
@@ -7,7 +7,8 @@ use Rattle.refusals.specs.Table.{fault_text}
 use Rattle.rules.specs.declared.node.Node.{Node}
 use Rattle.rules.specs.Nodes.{no_node, kind_word, leaf_test}
 use Rattle.rule_text.specs.Reading.{Taken, Refused}
-use Rattle.symbols.specs.Bytes.{every_byte, test_at, is_every}
+use Rattle.symbols.specs.Bytes.{every_byte, is_every}
+use Rattle.symbols.specs.Lists.{has_at}
 use Rattle.symbols.specs.Turned.{turned_at}
 use Rattle.symbols.specs.declared.bytes.ByteTest.{ByteTest}
 
@@ -56,7 +57,7 @@ letter_tests = every_byte ∷ record { lowest = 97; highest = 97 } ∷ record { 
 
 -- which tests some byte meets, where these tests are turned
 abbrev pub possible : List ByteTest → ℕ → Bool
-possible tests t = turned_at (length tests) (λ u. nat_lt u (length tests)) (λ u. not (is_every (test_at tests u))) false t
+possible tests t = turned_at (length tests) (has_at (λ _. true) tests) (λ u. not (has_at is_every tests u)) false t
 
 -- what is printed for a rule's list
 pub record Lists (ns : List Node) (bytes : List ℕ) : Type 0 where

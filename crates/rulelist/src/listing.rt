@@ -8,7 +8,7 @@ use rule_text::{Entry, read};
 use rules::{Node, Rule};
 use std::alloc::{AllocError, Global};
 use std::fmt;
-use symbols::{ByteKind, Turned};
+use symbols::{ByteKind, ByteTest, Turned};
 
 // The names of the program: any, a, b.
 const NAMES: [Entry; 3] = [
@@ -87,14 +87,23 @@ fn table_text(
     Ok(text)
 }
 
+// The test of one byte.
+fn letter(byte: u8) -> ByteTest
+    ensures { result ≡ record { lowest = byte; highest = byte } }
+{
+    ByteTest {
+        lowest: byte,
+        highest: byte,
+    }
+}
+
 // The kind of the program: bytes 0 to 255, 97 and 98, and their opposites.
 fn letters(heap: Global) -> Result<Turned<ByteKind>, AllocError>
     ensures { IfOk result (λ k. k.kind.tests.items ≡ letter_tests) }
 {
     let mut bytes = ByteKind::new(heap)?;
-    // Neither is refused, and three tests can be turned.
-    let _ = bytes.add(b'a', b'a');
-    let _ = bytes.add(b'b', b'b');
+    bytes.add(letter(b'a')).unwrap();
+    bytes.add(letter(b'b')).unwrap();
     Ok(Turned::over(bytes).unwrap())
 }
 
