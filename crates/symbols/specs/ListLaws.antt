@@ -40,10 +40,9 @@ module _ {B S : Type 0} {meets : B → S → Bool} {sound : B → Bool} (all_mee
   pub list_failable : S → (list : List B) → list_all sound list ≡ true → (t : ℕ) → Decides (not (has_at all_meet list t)) (SomeFails (λ s. has_at (λ b. meets b s) list t))
   list_failable some list each t = failable_of some (slice_get list t) (passes_at sound list each t)
 
-  -- every symbol meets test t where it is one that every symbol meets
-  pub list_met : (list : List B) → list_all sound list ≡ true → (t : ℕ) → has_at all_meet list t ≡ true → (s : S) → has_at (λ b. meets b s) list t ≡ true
-  list_met list each t all s =
-      elim (cases_Bool (has_at (λ b. meets b s) list t)) [
-        | inl y ↦ y
-        | inr n ↦ absurd (both_ways (has_at all_meet list t) (not-true (has_at all_meet list t) ((list_failable s list each t).1 ∣ (s, n) ∣₁)) all)
-      ]
+  -- every symbol meets the first test, where it is a sound one that every symbol meets
+  pub first_met : (every : B) → sound every ≡ true → all_meet every ≡ true → (list : List B) → slice_get list 0 ≡ Some every → (s : S) → has_at (λ b. meets b s) list 0 ≡ true
+  first_met every is all list first s = rw first (elim (cases_Bool (meets every s)) [
+    | inl y ↦ y
+    | inr n ↦ absurd (both_ways (all_meet every) (not-true (all_meet every) ((law every is).1 ∣ (s, n) ∣₁)) all)
+  ])

@@ -1,9 +1,9 @@
 // Lists of tests. One is a kind: its test t is the t-th of the list.
-ghost use Rattle.std.specs.Prelude.{◌≡◌, ◌≤◌, true, not, [], ◌∷◌, length, IfOk, IfSome, vec_len, vec_capacity, slice_get};
+ghost use Rattle.std.specs.Prelude.{◌≡◌, ◌≤◌, true, not, [], ◌∷◌, length, Some, IfOk, IfSome, vec_len, vec_capacity, slice_get};
 ghost use Rattle.std.specs.List.{list_all};
 ghost use Rattle.std.proofs.Common.{rules};
 ghost use Rattle.symbols.specs.Lists.{has_at, add_answer, added_to};
-ghost use Rattle.symbols.specs.ListLaws.{past_fails, list_meetable, list_failable, list_met};
+ghost use Rattle.symbols.specs.ListLaws.{past_fails, list_meetable, list_failable, first_met};
 
 use crate::kind::Kind;
 use crate::showing::Showing;
@@ -21,8 +21,8 @@ pub struct TestList<T: SymbolTest> {
     // there are 1 to 64 tests
     ghost some: { 1 ≤ vec_len tests },
     ghost few: { vec_len tests ≤ 64 },
-    // every symbol meets the first
-    ghost first: { has_at T.all_meet tests.items 0 ≡ true },
+    // the first is the one that every symbol meets
+    ghost first: { slice_get tests.items 0 ≡ Some T.every },
     // each keeps its rules
     ghost sound: { list_all T.sound tests.items ≡ true },
     // there is room for 64, so that adding never allocates
@@ -81,7 +81,7 @@ impl<T: SymbolTest> Kind for TestList<T> {
 
     ghost past = { Prim.search (rules, past_fails) };
 
-    ghost every = { λ k s. list_met T.all_meet T.failable k.tests.items k.sound 0 k.first s };
+    ghost every = { λ k s. first_met T.all_meet T.failable T.every T.every_sound T.every_met k.tests.items k.first s };
 
     ghost inhabited = { λ k. ∣ T.some_symbol ∣₁ };
 
