@@ -9,7 +9,7 @@ use refusals::{Fault, Refusal};
 pub(crate) const MAX_WIDTH: usize = 256;
 
 // A width from 0 to 256, and the hooks below it. A kept width over 256 reads as 256, and a kept bit at or above the width as 0.
-// No equality is derived: two rows are equal where they read the same, whatever is kept past the width.
+// No equality is derived, by a rule of the project: two rows are equal where they read the same, whatever is kept past the width.
 #[derive(Clone, Copy)]
 pub struct Row {
     width: u16,
