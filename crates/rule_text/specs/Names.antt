@@ -29,6 +29,11 @@ pub record GoodEntry (names : List (List ℕ)) (i : ℕ) : Type 0 where
   pub first : i ≡ 0 → own ≡ codes "any"
   pub new : (j : ℕ) → j < i → is_entry (slice_index_or names j []) own ≡ false
 
+-- the first entry that breaks the rules, if any
+abbrev pub FirstBad : List (List ℕ) → Option ℕ → Type 0
+FirstBad names None = (i : ℕ) → i < length names → GoodEntry names i
+FirstBad names (Some i) = (i < length names) × ((j : ℕ) → j < i → GoodEntry names j) × (GoodEntry names i → ⊥)
+
 -- a name list: 1 to 128 entries that keep the rules
 pub record GoodNames (names : List (List ℕ)) : Type 0 where
   pub some : 1 ≤ length names

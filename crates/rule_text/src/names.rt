@@ -2,7 +2,7 @@
 ghost use Rattle.std.specs.Prelude.{◌≡◌, ◌<◌, ◌≤◌, [], length, None, Decides, MatchResult, slice_index, slice_index_or};
 ghost use Rattle.refusals.specs.declared.Refusal.TheVariants.{BadNames};
 ghost use Rattle.rule_text.specs.Words.{front};
-ghost use Rattle.rule_text.specs.Names.{is_entry, test_named, AllZero, EntryName, GoodEntry, GoodNames, NamesFault};
+ghost use Rattle.rule_text.specs.Names.{is_entry, test_named, AllZero, EntryName, FirstBad, GoodEntry, GoodNames, NamesFault};
 
 use crate::words::{MAX_NAME, is_test_name, spells, split_run};
 use refusals::{Fault, Refusal};
@@ -90,6 +90,19 @@ fn is_good(entries: &[Entry], i: usize) -> bool
     }
 }
 
+// The number of the first entry that breaks the rules.
+fn first_bad(entries: &[Entry]) -> Option<usize>
+    ensures { FirstBad entries.now result }
+{
+    // a loop: of `(0..entries.len()).find(..)` the proof did not close
+    for i in 0..entries.len() {
+        if !is_good(entries, i) {
+            return Some(i);
+        }
+    }
+    None
+}
+
 impl<'a> Names<'a> {
     // The names of a list that keeps its rules; refuses any other, at the first byte of its first bad entry.
     pub fn new(entries: &'a [Entry]) -> Result<Names<'a>, Fault>
@@ -98,12 +111,10 @@ impl<'a> Names<'a> {
         if entries.is_empty() || entries.len() > MAX_NAMES {
             return Err(Refusal::BadNames.at(0));
         }
-        for i in 0..entries.len() {
-            if !is_good(entries, i) {
-                return Err(Refusal::BadNames.at(i * MAX_NAME));
-            }
+        match first_bad(entries) {
+            None => Ok(Names { entries }),
+            Some(i) => Err(Refusal::BadNames.at(i * MAX_NAME)),
         }
-        Ok(Names { entries })
     }
 
     // How many names there are.

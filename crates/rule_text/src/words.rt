@@ -47,6 +47,7 @@ fn run_len(text: &[u8]) -> usize
 pub(crate) fn split_run(text: &[u8]) -> (&[u8], &[u8])
     ensures run { result.0.now ≡ front text.now }
     ensures after { result.1.now ≡ drop (length (front text.now)) text.now }
+    ensures within { length result.0.now ≤ length text.now }
 {
     text.split_at(run_len(text))
 }
