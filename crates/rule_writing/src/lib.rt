@@ -11,7 +11,7 @@ use place::Place;
 use refusals::{Fault, Refusal};
 use rule_text::{Entry, MAX_DEPTH, MAX_TEXT, Names};
 use rules::Rule;
-use writer::{Extent, Writer};
+use writer::{Extent, Page, Writer};
 
 // Refuses a text whose brackets are too deep, or that is too long, or that a memory of this many bytes cannot hold.
 fn check_extent(extent: Extent, room: usize) -> Result<(), Fault>
@@ -38,5 +38,7 @@ pub fn write(names: &[Entry], rule: &Rule, memory: &mut [u8]) -> Result<usize, F
     let root = rule.nodes().len() - 1;
     let extent = writer.measure(Place::Whole, root);
     check_extent(extent, memory.len())?;
-    Ok(writer.put(Place::Whole, root, memory, 0))
+    let mut page = Page::new(memory);
+    writer.put(Place::Whole, root, &mut page);
+    Ok(page.len())
 }

@@ -54,14 +54,41 @@ fn brackets(needed: bool) -> (&'static [u8], &'static [u8])
     if needed { (b"(", b")") } else { (b"", b"") }
 }
 
-// Writes these bytes from a place on, and tells the place behind them.
-fn put_bytes(memory: &mut [u8], at: usize, bytes: &[u8]) -> usize
-    requires { at + length bytes.now ≤ length memory.old }
-    ensures { Puts bytes.now memory.old at memory.new result }
-{
-    let end = at + bytes.len();
-    memory[at..end].copy_from_slice(bytes);
-    end
+// A memory, and the place in it that is written next.
+#[derive(Drop)]
+pub(crate) struct Page<'m> {
+    memory: &'m mut [u8],
+    at: usize,
+}
+
+impl<'m> Page<'m> {
+    // All of a memory, from its front on.
+    pub(crate) fn new(memory: &'m mut [u8]) -> Page<'m>
+        ensures same { result.memory.ghost_name ≡ memory.entry.ghost_name }
+        ensures memory { result.memory.now ≡ memory.old }
+        ensures front { result.at ≡ 0 }
+    {
+        Page { memory, at: 0 }
+    }
+
+    // How many bytes are written.
+    pub(crate) fn len(&self) -> usize
+        ensures { result ≡ self.now.at }
+    {
+        self.at
+    }
+
+    // Writes these bytes behind those before.
+    fn push(&mut self, bytes: &[u8])
+        requires { self.old.at + length bytes.now ≤ length self.old.memory.now }
+        ensures same { self.new.memory.ghost_name ≡ self.old.memory.ghost_name }
+        ensures room { length self.new.memory.now ≡ length self.old.memory.now }
+        ensures puts { Puts bytes.now self.old.memory.now self.old.at self.new.memory.now self.new.at }
+    {
+        let end = self.at + bytes.len();
+        self.memory[self.at..end].copy_from_slice(bytes);
+        self.at = end;
+    }
 }
 
 impl<'a> Writer<'a> {
@@ -126,31 +153,33 @@ impl<'a> Writer<'a> {
         }
     }
 
-    // Writes the text of node p from a place on, and tells the place behind it.
-    pub(crate) fn put(self, place: Place, p: usize, memory: &mut [u8], at: usize) -> usize
+    // Writes the text of node p.
+    pub(crate) fn put(self, place: Place, p: usize, page: &mut Page<'_>)
         requires within { p < length self.rule.now.nodes.items }
-        requires room { at + length (text_at self.names.entries.now self.rule.now.nodes.items place p) ≤ length memory.old }
-        ensures { Puts (text_at self.entry.names.entries.now self.entry.rule.now.nodes.items place p) memory.old at memory.new result }
+        requires room { page.old.at + length (text_at self.names.entries.now self.rule.now.nodes.items place p) ≤ length page.old.memory.now }
+        ensures same { page.new.memory.ghost_name ≡ page.old.memory.ghost_name }
+        ensures room { length page.new.memory.now ≡ length page.old.memory.now }
+        ensures puts { Puts (text_at self.entry.names.entries.now self.entry.rule.now.nodes.items place p) page.old.memory.now page.old.at page.new.memory.now page.new.at }
     {
         match self.rule.form(p) {
-            Form::Void => put_bytes(memory, at, b"void"),
-            Form::Nil => put_bytes(memory, at, b"nil"),
+            Form::Void => page.push(b"void"),
+            Form::Nil => page.push(b"nil"),
             Form::Leaf(test) => {
                 let (mark, name) = self.leaf_parts(test);
-                let marked = put_bytes(memory, at, mark);
-                put_bytes(memory, marked, name)
+                page.push(mark);
+                page.push(name);
             }
             Form::Repeat(child) => {
-                let inner = self.put(Place::Repeated, child, memory, at);
-                put_bytes(memory, inner, b"*")
+                self.put(Place::Repeated, child, page);
+                page.push(b"*");
             }
             Form::Join(join, left, right) => {
                 let (open, close) = brackets(needs_brackets(place, join));
-                let opened = put_bytes(memory, at, open);
-                let first = self.put(Place::Left(join), left, memory, opened);
-                let parted = put_bytes(memory, first, between(join));
-                let second = self.put(Place::Right(join), right, memory, parted);
-                put_bytes(memory, second, close)
+                page.push(open);
+                self.put(Place::Left(join), left, page);
+                page.push(between(join));
+                self.put(Place::Right(join), right, page);
+                page.push(close);
             }
         }
     }

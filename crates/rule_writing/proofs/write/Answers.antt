@@ -1,5 +1,5 @@
 -- The text is written, or the rule is refused for the first reason that applies.
-use Rattle.std.proofs.Common.{◌≡◌, ℕ, ◌-◌, ◌*◌, List, length, Some, vec_items, Result, sym, refl, ap, subst}
+use Rattle.std.proofs.Common.{◌≡◌, ℕ, ◌-◌, ◌*◌, List, length, Some, vec_items, Result, Ok, rules, sym, refl, ap, subst}
 use Rattle.std.proofs.lemmas.Result.{err_from_is_err_and}
 use Rattle.refusals.specs.declared.Fault.{Fault}
 use Rattle.refusals.specs.declared.Refusal.TheVariants.{BadNames, UnknownName}
@@ -47,11 +47,15 @@ returns-in_err-check_extent c =
     let m = rw (w.0, w.1, n.1) at c.measure-extent.ensures in
     rw (p.1, p.2) (writing _ (refl, whole_refused c.args.names.now (vec_items c.args.rule.now.nodes) c.args.rule.now.formed n.0 (λ t h. c.told-names t h) named (length c.nodes.result.now - 1) _ _ (ap (λ (ns : List Node). length ns - 1) c.nodes.ensures) m _ _ c.in_err-check_extent.ensures))
 
+-- what the page was left with
+left : (names : List (List ℕ)) (ns : List Node) (before : List ℕ) {after after' : List ℕ} {k k' : ℕ} → after ≡ after' → k ≡ k' → Outcome names ns before after' (Ok k') → Outcome names ns before after (Ok k)
+left names ns before e f h = rw (e, f) h
+
 pub returns : goal.returns
 returns c =
     let n = c.in_ok-names.ensures in
     let w = c.in_ok-writer.ensures in
     let named = rw (w.0, w.1, n.1) at c.in_ok-writer.writer.named in
     let m = rw (w.0, w.1, n.1) at c.measure-extent.ensures in
-    let u = rw (w.0, w.1, n.1) at c.put.ensures in
-    writing _ (whole_written c.args.names.now (vec_items c.args.rule.now.nodes) c.args.rule.now.formed n.0 (λ t h. c.told-names t h) named (length c.nodes.result.now - 1) _ _ (ap (λ (ns : List Node). length ns - 1) c.nodes.ensures) m c.in_ok-check_extent.ensures u)
+    let u = rw (w.0, w.1, n.1, c.new-page.ensures.memory, c.new-page.ensures.front) at c.put.ensures.puts in
+    writing _ (left c.args.names.now (vec_items c.args.rule.now.nodes) c.args.memory.now (search rules) c.len.ensures (whole_written c.args.names.now (vec_items c.args.rule.now.nodes) c.args.rule.now.formed n.0 (λ t h. c.told-names t h) named (length c.nodes.result.now - 1) _ _ (ap (λ (ns : List Node). length ns - 1) c.nodes.ensures) m c.in_ok-check_extent.ensures u))
