@@ -11,7 +11,6 @@ use Rattle.rule_text.specs.Names.{NamesFault}
 use Rattle.rule_text.specs.Faults.{fault, IsRule}
 use Rattle.rule_text.specs.Reading.{Refused, bad_names, long, faulty}
 use Rattle.rule_text.proofs.Drafting.{gives_rooted}
-use Rattle.rule_text.proofs.Failing.{spoilt_next}
 use Rattle.rule_text.proofs.First.{first_fault, not_over, ends_rule, end_refused}
 use Rattle.rule_text.proofs.read_drafting.Goals as goal
 
@@ -35,13 +34,6 @@ returns-in_err-rest c =
     let p = err_from_is_err_and c.from_residual-in_err-rest.result c.from_residual-in_err-rest.ensures.1 in
     let e = rw (c.new-2.ensures.names, c.new-2.ensures.depth, c.new-3.ensures.bytes, c.new-3.ensures.whole, c.in_ok-names.ensures.1) at c.in_err-rest.ensures in
     rw (p.1, p.2) (refl, faulty c.in_ok-names.ensures.0 c.in_ok-check_length.ensures (first_fault c.args.text.now e))
-
-pub returns-in_err-last : goal.returns-in_err-last
-returns-in_err-last c =
-    let p = err_from_is_err_and c.from_residual-in_err-last.result c.from_residual-in_err-last.ensures.1 in
-    let k = rw (c.new-2.ensures.names, c.new-2.ensures.depth, c.new-3.ensures.bytes, c.new-3.ensures.whole, c.in_ok-names.ensures.1) at c.in_ok-rest.ensures in
-    let e = rw k.1 at c.in_err-last.ensures in
-    rw (p.1, p.2) (refl, faulty c.in_ok-names.ensures.0 c.in_ok-check_length.ensures (first_fault c.args.text.now (spoilt_next {us = k.0.used} {ns = k.0.new} k.0.gives k.0.split e)))
 
 pub returns-in_err-check_end : goal.returns-in_err-check_end
 returns-in_err-check_end c =

@@ -102,9 +102,6 @@ item-returns-in_err-rest t c =
     let p = err_from_is_err_and c.from_residual.result c.from_residual.ensures.1 in
     rw (p.1, p.2) (raised item atom (λ m u b. (b.0, b.1, plain b.2)) c.in_err-rest.ensures)
 
-pub item-loop-next-init : goal.item-loop-next-init
-item-loop-next-init t c = (c.in_ok-rest.ensures.0.shorter, c.in_ok-rest.ensures.1, λ i o k. k)
-
 pub item-returns-in_err-next : goal.item-returns-in_err-next
 item-returns-in_err-next t c =
     let p = err_from_is_err_and c.from_residual-in_err-next.result c.from_residual-in_err-next.ensures.1 in
@@ -126,9 +123,6 @@ pub chain-returns-in_err-rest : goal.chain-returns-in_err-rest
 chain-returns-in_err-rest t c =
     let p = err_from_is_err_and c.from_residual.result c.from_residual.ensures.1 in
     rw (p.1, p.2) (raised chain item (λ m u b. (b.0, b.1, single b.2)) c.in_err-rest.ensures)
-
-pub chain-loop-next-init : goal.chain-loop-next-init
-chain-loop-next-init t c = (c.in_ok-rest.ensures.0.shorter, c.in_ok-rest.ensures.1, λ i o k. k)
 
 pub chain-returns-in_err-next : goal.chain-returns-in_err-next
 chain-returns-in_err-next t c =
@@ -159,9 +153,6 @@ pub choice-returns-in_err-rest : goal.choice-returns-in_err-rest
 choice-returns-in_err-rest t c =
     let p = err_from_is_err_and c.from_residual.result c.from_residual.ensures.1 in
     rw (p.1, p.2) (raised choice chain (λ m u b. (b.0, b.1, alone b.2)) c.in_err-rest.ensures)
-
-pub choice-loop-next-init : goal.choice-loop-next-init
-choice-loop-next-init t c = (c.in_ok-rest.ensures.0.shorter, c.in_ok-rest.ensures.1, λ i o k. k)
 
 pub choice-returns-in_err-next : goal.choice-returns-in_err-next
 choice-returns-in_err-next t c =
