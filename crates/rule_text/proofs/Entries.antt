@@ -33,9 +33,6 @@ pub entry_from : (e x : List ℕ) → ((k : ℕ) → k < 16 → get_or e k 0 ≡
 unfolding is_entry
 entry_from e x h = all_pass (λ k. eqb (get_or e k 0) (get_or x k 0)) 16 (λ k l. eq-eqb (get_or e k 0) (get_or x k 0) (h k l))
 
-pub entry_fails : (e x : List ℕ) (k : ℕ) → k < 16 → (get_or e k 0 ≡ get_or x k 0 → ⊥) → is_entry e x ≡ false
-entry_fails e x k l d = ⊎_elim (λ b. absurd (d (entry_byte e x b k l))) (λ b. b) (cases_Bool (is_entry e x))
-
 -- an entry that has each byte of the name, or has not
 pub entry_decided : (e x : List ℕ) (b : Bool) → length e ≡ 16 → Decides b ((k : ℕ) → k < length e → get_or e k 0 ≡ get_or x k 0) → b ≡ is_entry e x
 entry_decided e x true n d = sym (entry_from e x (λ k l. d.0 refl k (omega arith)))

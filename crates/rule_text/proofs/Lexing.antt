@@ -1,12 +1,10 @@
 -- What the first byte, or the first run, of a text leaves of its words.
 use Rattle.std.proofs.Common.{◌≡◌, ℕ, zero, suc, ◌+◌, ◌-◌, ◌<◌, ◌≤◌, true, false, cond, List, [], ◌∷◌, length, get_or, take, drop, Some, sym, refl, ap, ◌∙◌, ⊎_elim, arith, length-drop, length-take}
-use lib.Seq.{take-length}
-use Rattle.std.proofs.lemmas.Bool.Decides.{nat_tests}
 use Rattle.std.proofs.lemmas.Bool.{cond-true, cond-false, cases_Bool}
 use Rattle.std.proofs.lemmas.List.Folds.{length-prefix_len}
 use Rattle.std.proofs.lemmas.List.Sums.{take_while-cons}
 use Rattle.std.specs.List.{take_while}
-use Rattle.rule_text.specs.Words.{Word, name, run_word, mark, in_run, blank, front, words}
+use Rattle.rule_text.specs.Words.{Word, name, run_word, in_run, front, words}
 use Rattle.rule_text.specs.Lexing.{words_of, Starts, Shorter, IsRunWord}
 use Rattle.rule_text.specs.declared.words.Word.{Word as Token}
 use Rattle.rule_text.specs.declared.words.Word.TheVariants.{Name, Nil, Void, Open, Close, Bar, Star, Bang, End}
@@ -29,37 +27,6 @@ take_front xs = ap (λ l. take (length l) xs) (sym (take_while_front xs)) ∙ ap
 
 pub front_le : (xs : List ℕ) → length (front xs) ≤ length xs
 front_le xs = omega (arith, ap length (take_front xs), length-take (length (front xs)) xs)
-
--- a blank is passed over
-pub past_blank : (whole b : ℕ) (bs : List ℕ) → length (b ∷ bs) ≤ whole → blank b ≡ true → words_of whole (b ∷ bs) ≡ words_of whole bs
-past_blank whole b bs h e =
-    let no_run : in_run b ≡ false = grind (arith, nat_tests) in
-    let here : whole - length (b ∷ bs) + 1 ≡ whole - length bs = omega arith in
-    cond-false (in_run b) _ _ no_run ∙ cond-true (blank b) _ _ e ∙ ap (λ p. words p false bs) here
-
--- what `[_, after @ ..]` binds
-pub tail_is : (b : ℕ) (bs : List ℕ) (n : ℕ) → n ≡ length bs → take n (drop 1 (b ∷ bs)) ≡ bs
-tail_is b bs n e = ap (λ k. take k bs) e ∙ take-length bs
-
-pub skip_step : (whole : ℕ) (xs : List ℕ) (n : ℕ) → length xs ≤ whole → 0 < length xs → n ≡ length xs → blank (get_or xs 0 0) ≡ true → words_of whole (take (n - 1) (drop 1 xs)) ≡ words_of whole xs
-skip_step whole [] n h k e t = absurd (omega arith)
-skip_step whole (b ∷ bs) n h k e t = ap (words_of whole) (tail_is b bs (n - 1) (omega arith)) ∙ sym (past_blank whole b bs h t)
-
--- what one mark leaves
-pub mark_step : (whole : ℕ) (text xs : List ℕ) (n : ℕ) (w : Word) → length xs ≤ whole → words_of whole xs ≡ words_of whole text → 0 < length xs → n ≡ length xs → in_run (get_or xs 0 0) ≡ false → blank (get_or xs 0 0) ≡ false → mark (get_or xs 0 0) ≡ w → words_of whole text ≡ (whole - length xs, w) ∷ words_of whole (take (n - 1) (drop 1 xs))
-mark_step whole text [] n w h same k e r t m = absurd (omega arith)
-mark_step whole text (b ∷ bs) n w h same k e r t m =
-    let here : whole - length (b ∷ bs) + 1 ≡ whole - length bs = omega arith in
-    sym same ∙ cond-false (in_run b) _ _ r ∙ cond-false (blank b) _ _ t
-    ∙ ap (λ v. (whole - length (b ∷ bs), v) ∷ words (whole - length (b ∷ bs) + 1) false bs) m
-    ∙ ap (λ p. (whole - length (b ∷ bs), w) ∷ words p false bs) here
-    ∙ ap (λ l. (whole - length (b ∷ bs), w) ∷ words_of whole l) (sym (tail_is b bs (n - 1) (omega arith)))
-
-pub mark_read : (whole : ℕ) (text xs : List ℕ) (n b : ℕ) → length text ≤ whole → length xs ≤ length text → words_of whole xs ≡ words_of whole text → 0 < length xs → n ≡ length xs → get_or xs 0 0 ≡ b → in_run b ≡ false → blank b ≡ false → (words_of whole text ≡ (whole - length xs, mark b) ∷ words_of whole (take (n - 1) (drop 1 xs))) × (length (take (n - 1) (drop 1 xs)) < length text)
-mark_read whole text xs n b h le same k e is r t = (
-  mark_step whole text xs n (mark b) (omega arith) same k e (ap in_run is ∙ r) (ap blank is ∙ t) (ap mark is),
-  simp (length-take, length-drop) (omega arith),
-)
 
 -- the words after a run
 pub inside : (p : ℕ) (bs : List ℕ) → words p true bs ≡ words (p + length (front bs)) false (drop (length (front bs)) bs)
@@ -102,10 +69,6 @@ first_of (b ∷ bs) ys n e k =
     (λ t. t)
     (λ t. absurd (omega (arith, ap length e, ap length (cond-false (in_run b) (b ∷ front bs) [] t))))
     (cases_Bool (in_run b))
-
-pub no_words : (whole : ℕ) (xs : List ℕ) → length xs ≡ 0 → words_of whole xs ≡ []
-no_words whole [] e = refl
-no_words whole (b ∷ bs) e = absurd (omega arith)
 
 -- a run that is a word is the first of the words
 pub run_starts : (whole p m n : ℕ) (r : List ℕ) (ws vs : List (ℕ × Word)) (t : Token) → IsRunWord r (Some t) → ws ≡ (p, run_word r) ∷ vs → m < n → Starts whole t p ws vs × Shorter t m n
