@@ -10,7 +10,7 @@ use refusals::{Fault, Refusal};
 // A name list has 1 to this many entries.
 pub const MAX_NAMES: usize = 128;
 
-// A name, filled up with 0 bytes; an array, since callers give entries of fixed length.
+// A name, filled up with 0 bytes: the fixed form in which callers give it.
 pub type Entry = [u8; 16];
 
 // A name list that keeps its rules.
@@ -24,7 +24,7 @@ pub struct Names<'a> {
 fn byte_at(bytes: &[u8], i: usize) -> u8
     ensures { result ≡ slice_index bytes.now i }
 {
-    if i < bytes.len() { bytes[i] } else { 0 }
+    bytes.get(i).copied().unwrap_or(0)
 }
 
 // Whether the entry is this name, filled up with 0 bytes.

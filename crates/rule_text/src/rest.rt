@@ -42,7 +42,7 @@ impl<'a> Rest<'a> {
         self.whole - self.bytes.len()
     }
 
-    // The text past its leading blanks. A text is taken apart by patterns, into its first byte and those after it.
+    // The text past its leading blanks. By slice patterns, first byte and rest: the form in which blanks and marks are read.
     fn skip_blanks(self) -> Rest<'a>
         ensures shorter { length result.bytes.now ≤ length self.entry.bytes.now }
         ensures whole { result.whole ≡ self.entry.whole }
@@ -97,10 +97,8 @@ impl<'a> Rest<'a> {
                 if run.is_empty() {
                     return Err(Refusal::StrayByte.at(text.place()));
                 }
-                match run_word(run) {
-                    Some(word) => Ok(text.placed(word, after)),
-                    None => Err(Refusal::NotAName.at(text.place())),
-                }
+                let word = run_word(run).ok_or(Refusal::NotAName.at(text.place()))?;
+                Ok(text.placed(word, after))
             }
         }
     }

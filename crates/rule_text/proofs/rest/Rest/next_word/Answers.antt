@@ -12,11 +12,11 @@ first_word c k some =
     let xs = c.skip_blanks-text.result.bytes.now in
     rw (c.split_run.ensures.run, c.split_run.ensures.after) (run_step c.args.self.whole c.args.self.bytes.now xs (search rules) c.skip_blanks-text.ensures.same k (first_of xs _ 0 c.split_run.ensures.run some))
 
-pub returns-in-Some : goal.returns-in-Some
-returns-in-Some c =
-    let here = (goal.at.returns-in-Some c).After-split_run in
-    let p = c.placed-in-Some.ensures in
+pub returns-in_ok-word-in_default : goal.returns-in_ok-word-in_default
+returns-in_ok-word-in_default c =
+    let here = (goal.at.returns-in_ok-word-in_default c).After-split_run in
+    let p = c.placed-in_default.ensures in
     let k : 0 < length c.skip_blanks-text.result.bytes.now = search rules in
     let some : 0 < length c.split_run.result.0.now = search rules in
-    let m = run_starts c.args.self.whole _ _ _ c.split_run.result.0.now _ _ c.in-Some.word c.in-Some.ensures (first_word here k some) (omega (arith, some, ap length c.split_run.ensures.run, ap length c.split_run.ensures.after, length-drop (length (front c.skip_blanks-text.result.bytes.now)) c.skip_blanks-text.result.bytes.now, c.skip_blanks-text.ensures.shorter)) in
+    let m = run_starts c.args.self.whole _ _ _ c.split_run.result.0.now _ _ c.in_ok-word-in_default.word (rw c.in_ok-word-in_default.ensures.ok_part at c.run_word.ensures) (first_word here k some) (omega (arith, some, ap length c.split_run.ensures.run, ap length c.split_run.ensures.after, length-drop (length (front c.skip_blanks-text.result.bytes.now)) c.skip_blanks-text.result.bytes.now, c.skip_blanks-text.ensures.shorter)) in
     rw (p.word, p.place, p.after, p.whole, c.skip_blanks-text.ensures.whole) (m.0, m.1, refl)
