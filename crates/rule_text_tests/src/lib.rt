@@ -4,7 +4,7 @@
 #[cfg(test)]
 mod tests {
     use refusals::{Fault, Refusal};
-    use rule_text::{Entry, read};
+    use rule_text::{Entry, Names, read};
     use rules::{Node, Rule, Shape};
     use std::alloc::{AllocError, Global};
     use std::test::Fail;
@@ -80,6 +80,19 @@ mod tests {
             answer(heap, &many_names(heap, 129)?, b"any")?,
             Err(Refusal::BadNames.at(0))
         );
+        Ok(())
+    }
+
+    #[test]
+    fn told(rt: HostRuntime) -> Result<(), Fail> {
+        let entries = [entry(b"any"), entry(b"abcdefghijklmnop")];
+        let Ok(names) = Names::new(&entries) else {
+            return Err(Fail::new("refused"));
+        };
+        assert_eq!(rt; names.count(), 2);
+        assert_eq!(rt; names.name(0), b"any".as_slice());
+        assert_eq!(rt; names.name(1), b"abcdefghijklmnop".as_slice());
+        assert!(rt; names.name(2).is_empty());
         Ok(())
     }
 
