@@ -1,12 +1,17 @@
 -- Entries of a name list: what a name fills, and which entry is found.
-use Rattle.std.proofs.Common.{◌≡◌, ℕ, zero, suc, ◌+◌, ◌-◌, ◌*◌, ◌<◌, ◌≤◌, Bool, true, false, eqb, leb, List, [], ◌∷◌, length, get_or, take, drop, Some, None, Option, sym, refl, ap, ◌∙◌, inl, inr, ⊎_elim, arith, length-drop, get_or-drop, get_or-take}
+use Rattle.std.proofs.Common.{◌≡◌, ℕ, zero, suc, ◌+◌, ◌-◌, ◌*◌, ◌<◌, ◌≤◌, Bool, true, false, cond, eqb, leb, ltb, Decides, List, [], ◌∷◌, length, get_or, take, drop, Some, None, Option, sym, refl, ap, ◌∙◌, subst, codes, inl, inr, ⊎_elim, arith, length-drop, get_or-drop, get_or-take}
 use Rattle.std.proofs.lemmas.List.{ext_get_or, get_or_past, length-take-le}
-use Rattle.std.proofs.lemmas.Bool.{cases_Bool, cases_lt, cases_order, and_parts, eqb-true, eq-eqb, leb-true, cond-true, cond-false, false≢true}
+use Rattle.std.proofs.lemmas.Bool.{cases_Bool, cases_lt, cases_order, and_parts, eqb-true, eq-eqb, leb-true, lt-ltb, le-ltb, cond-true, cond-false, false≢true}
 use Rattle.std.proofs.lemmas.Bool.Decides.{eqb_tells}
-use Rattle.std.specs.Option.{option_map}
+use Rattle.std.specs.List.{position_or_len}
+use Rattle.std.proofs.lemmas.List.Sums.{position_or_len_is, fails_before_first}
+use Rattle.std.proofs.lemmas.List.Quantifiers.{position-Some}
+use Rattle.std.proofs.Math.Logic.{∥∥₁_elim}
+use Rattle.std.proofs.Props.{props}
+use Rattle.std.specs.Coded.{le_prop}
 use Rattle.rule_text.specs.Words.{in_run, front, is_name, letter}
 use Rattle.rule_text.specs.Names.{up_to, is_entry, test_named, Fills, AllZero, GoodNames, NamesFault, bad_length, bad_entry}
-use Rattle.rule_text.proofs.Lexing.{front_is}
+use Rattle.rule_text.proofs.Lexing.{front_is, take_front}
 
 -- every number below passes
 up_to_lem : (f : ℕ → Bool) (n i : ℕ) → up_to n f ≡ true → i < n → f i ≡ true
@@ -28,54 +33,32 @@ pub entry_from : (e x : List ℕ) → ((k : ℕ) → k < 16 → get_or e k 0 ≡
 unfolding is_entry
 entry_from e x h = all_pass (λ k. eqb (get_or e k 0) (get_or x k 0)) 16 (λ k l. eq-eqb (get_or e k 0) (get_or x k 0) (h k l))
 
-pub entry_fails : (e x : List ℕ) (k : ℕ) → k < 16 → (get_or e k 0 ≡ get_or x k 0 → ⊥) → is_entry e x ≡ false
-entry_fails e x k l d = ⊎_elim (λ b. absurd (d (entry_byte e x b k l))) (λ b. b) (cases_Bool (is_entry e x))
+-- an entry that has each byte of the name, or has not
+pub entry_decided : (e x : List ℕ) (b : Bool) → length e ≡ 16 → Decides b ((k : ℕ) → k < length e → get_or e k 0 ≡ get_or x k 0) → b ≡ is_entry e x
+entry_decided e x true n d = sym (entry_from e x (λ k l. d.0 refl k (omega arith)))
+entry_decided e x false n d = sym (⊎_elim (λ t. absurd (false≢true (d.1 (λ k l. entry_byte e x t k (omega arith))))) (λ h. h) (cases_Bool (is_entry e x)))
 
 -- the first entry that is the name
 pub found_first : (names : List (List ℕ)) (x : List ℕ) (t : ℕ) → t < length names → ((k : ℕ) → k < t → is_entry (get_or names k []) x ≡ false) → is_entry (get_or names t []) x ≡ true → test_named names x ≡ Some t
-found_first [] x t h none e = absurd (omega arith)
-found_first (n ∷ ns) x zero h none e = cond-true (is_entry n x) _ _ e
-found_first (n ∷ ns) x (suc t) h none e =
-    cond-false (is_entry n x) _ _ (none 0 (omega arith)) ∙ ap (option_map suc) (found_first ns x t (omega arith) (λ k l. none (suc k) (omega arith)) e)
+found_first names x t h none e =
+    ap (λ k. cond (ltb k (length names)) (Some k) None) (position_or_len_is (λ n. is_entry n x) names t [] (omega arith) none (λ _. e)) ∙ cond-true _ _ _ (lt-ltb t (length names) h)
 
-pub not_found : (names : List (List ℕ)) (x : List ℕ) → ((k : ℕ) → k < length names → is_entry (get_or names k []) x ≡ false) → test_named names x ≡ None
-not_found [] x none = refl
-not_found (n ∷ ns) x none =
-    cond-false (is_entry n x) _ _ (none 0 (omega arith)) ∙ ap (option_map suc) (not_found ns x (λ k l. none (suc k) (omega arith)))
+not_found : (names : List (List ℕ)) (x : List ℕ) → ((k : ℕ) → k < length names → is_entry (get_or names k []) x ≡ false) → test_named names x ≡ None
+not_found names x none =
+    ap (λ k. cond (ltb k (length names)) (Some k) None) (position_or_len_is (λ n. is_entry n x) names (length names) [] (omega arith) none (λ h. absurd (omega arith))) ∙ cond-false _ _ _ (le-ltb (length names) (length names) (omega arith))
 
-abbrev is_none : Option ℕ → Bool
-is_none None = true
-is_none (Some t) = false
-
-none_back : (o : Option ℕ) → option_map suc o ≡ None → o ≡ None
-none_back None e = refl
-none_back (Some t) e = absurd (false≢true (ap is_none e))
-
-first_none : (n : List ℕ) (ns : List (List ℕ)) (x : List ℕ) → test_named (n ∷ ns) x ≡ None → is_entry n x ≡ false
-first_none n ns x e =
-    ⊎_elim (λ b. absurd (false≢true (ap is_none (sym (cond-true (is_entry n x) (Some 0) (option_map suc (test_named ns x)) b) ∙ e)))) (λ b. b) (cases_Bool (is_entry n x))
-
-pub none_found : (names : List (List ℕ)) (x : List ℕ) → test_named names x ≡ None → (k : ℕ) → k < length names → is_entry (get_or names k []) x ≡ false
-none_found [] x e k h = absurd (omega arith)
-none_found (n ∷ ns) x e zero h = first_none n ns x e
-none_found (n ∷ ns) x e (suc k) h =
-    none_found ns x (none_back (test_named ns x) (sym (cond-false (is_entry n x) (Some 0) (option_map suc (test_named ns x)) (first_none n ns x e)) ∙ e)) k (omega arith)
-
-abbrev value_or0 : Option ℕ → ℕ
-value_or0 None = 0
-value_or0 (Some t) = t
-
-below_more : (o : Option ℕ) (t n : ℕ) → ((u : ℕ) → o ≡ Some u → u < n) → option_map suc o ≡ Some t → t < suc n
-below_more None t n h e = absurd (false≢true (ap is_none (sym e)))
-below_more (Some u) t n h e = let z = ap value_or0 e in let k = h u refl in omega arith
+none_found : (names : List (List ℕ)) (x : List ℕ) → test_named names x ≡ None → (k : ℕ) → k < length names → is_entry (get_or names k []) x ≡ false
+none_found names x e k h = elim (cases_lt (position_or_len (λ n. is_entry n x) names) (length names)) [
+  | inl lt ↦ absurd (false≢true (ap is_none (sym (cond-true _ _ _ (lt-ltb _ _ lt)) ∙ e)))
+  | inr ge ↦ fails_before_first (λ n. is_entry n x) names k [] (omega arith)
+]
+  where
+    is_none : Option ℕ → Bool
+    is_none None = true
+    is_none (Some t) = false
 
 pub some_found : (names : List (List ℕ)) (x : List ℕ) (t : ℕ) → test_named names x ≡ Some t → t < length names
-some_found [] x t e = absurd (false≢true (ap is_none (sym e)))
-some_found (n ∷ ns) x t e =
-    ⊎_elim
-    (λ b. let z = ap value_or0 (sym (cond-true (is_entry n x) (Some 0) (option_map suc (test_named ns x)) b) ∙ e) in omega arith)
-    (λ b. below_more (test_named ns x) t (length ns) (λ u f. some_found ns x u f) (sym (cond-false (is_entry n x) (Some 0) (option_map suc (test_named ns x)) b) ∙ e))
-    (cases_Bool (is_entry n x))
+some_found names x t e = (position-Some (λ n. is_entry n x) names t [] e).0
 
 -- a test's name has at most 16 bytes
 name_short : (x : List ℕ) → is_name x ≡ true → length x ≤ 16
@@ -104,14 +87,17 @@ front_run (b ∷ bs) = ⊎_elim
 
 -- an entry and the run that it starts with
 module _ (e : List ℕ) (sixteen : length e ≡ 16) where
-  pub run_fills : (n : ℕ) → n ≤ length e → AllZero (drop n e) → is_entry e (take n e) ≡ true
-  run_fills n h zeros = entry_from e (take n e) (λ k l. elim (cases_lt k n) [
-    | inl lt ↦ sym (get_or-take n e k 0 lt)
-    | inr ge ↦
-        (let d : n + (k - n) ≡ k = omega arith in
-        ap (λ (j : ℕ). get_or e j 0) (sym d) ∙ sym (get_or-drop n e (k - n) 0) ∙ zeros (k - n) (omega (arith, length-drop n e))
-        ∙ sym (get_or_past (take n e) k 0 (omega (arith, length-take-le n e h))))
-  ])
+  pub run_fills : AllZero (drop (length (front e)) e) → is_entry e (front e) ≡ true
+  run_fills zeros =
+      let n = length (front e) in
+      let same = take_front e in
+      entry_from e (front e) (λ k l. elim (cases_lt k n) [
+        | inl lt ↦ sym (ap (λ x. get_or x k 0) (sym same) ∙ get_or-take n e k 0 lt)
+        | inr ge ↦
+            (let d : n + (k - n) ≡ k = omega arith in
+            ap (λ (j : ℕ). get_or e j 0) (sym d) ∙ sym (get_or-drop n e (k - n) 0) ∙ zeros (k - n) (omega (arith, length-drop n e))
+            ∙ sym (get_or_past (front e) k 0 ge))
+      ])
 
   module _ (x : List ℕ) (f : Fills e x) where
     short : length x ≤ 16
@@ -126,9 +112,10 @@ module _ (e : List ℕ) (sixteen : length e ≡ 16) where
         ∙ ext_get_or 0 (take (length x) e) x (length-take-le (length x) e few)
         (λ k l. get_or-take (length x) e k 0 (omega (arith, length-take-le (length x) e few)) ∙ entry_byte e x f.filled k (omega (arith, short, length-take-le (length x) e few)))
 
-    pub fills_zero : (n : ℕ) → take n e ≡ front e → n ≤ length e → AllZero (drop n e)
-    fills_zero n t h k l =
-        let long : length x ≡ n = omega (arith, ap length (sym t), ap length fills_run, length-take-le n e h) in
+    pub fills_zero : AllZero (drop (length (front e)) e)
+    fills_zero k l =
+        let n = length (front e) in
+        let long : length x ≡ n = ap length (sym fills_run) in
         get_or-drop n e k 0 ∙ entry_byte e x f.filled (n + k) (omega (arith, length-drop n e)) ∙ get_or_past x (n + k) 0 (omega arith)
 
 -- a name that none of the first i entries has
@@ -144,11 +131,14 @@ module _ (names : List (List ℕ)) (x : List ℕ) (i : ℕ) (within : i ≤ leng
       let j : k < i = omega (arith, length-take-le (i - 0) names (omega arith)) in
       ap (λ (n : List ℕ). is_entry n x) (first k j) ∙ h k j)
 
--- a good name list has a name
-pub first_known : (names : List (List ℕ)) → GoodNames names → (x : List ℕ) × (t : ℕ) × (test_named names x ≡ Some t)
-first_known names g =
-    let e = g.entries 0 g.some in
-    (e.own, 0, found_first names e.own 0 g.some (λ k h. absurd (omega arith)) e.fills.filled)
+-- a good name list has at most 128 names, `any` among them
+pub few_names : {names : List (List ℕ)} → ∥ GoodNames names ∥₁ → length names ≤ 128
+few_names g = ∥∥₁_elim g le_prop (λ h. h.few)
+
+pub any_known : (names : List (List ℕ)) → ∥ GoodNames names ∥₁ → test_named names (codes "any") ≡ Some 0
+any_known names g = ∥∥₁_elim g (Prim.hlevel props) (λ h.
+    let e = h.entries 0 h.some in
+    found_first names (codes "any") 0 h.some (λ k l. absurd (omega arith)) (subst (λ x. is_entry (get_or names 0 []) x ≡ true) (e.first refl) e.fills.filled))
 
 -- a good name list has no fault, and another has one place for it
 pub not_both : {names : List (List ℕ)} {p : ℕ} → GoodNames names → NamesFault names p → ⊥

@@ -3,12 +3,13 @@ use Rattle.std.proofs.Common.{◌≡◌, ℕ, ◌-◌, ◌<◌, ◌≤◌, Bool,
 use Rattle.std.proofs.lemmas.Bool.{both_ways}
 use Rattle.refusals.specs.declared.Fault.{Fault}
 use Rattle.refusals.specs.declared.Refusal.{Refusal}
+use Rattle.refusals.specs.declared.Refusal.TheVariants.{TooManyNodes}
 use Rattle.rules.specs.declared.node.Node.{Node}
-use Rattle.rule_text.specs.declared.words.Placed.{Placed}
+use Rattle.rule_text.specs.declared.rest.Placed.{Placed}
 use Rattle.rule_text.specs.declared.words.Word.TheVariants.{End}
 use Rattle.rule_text.specs.Words.{Word, words, words_in}
 use Rattle.rule_text.specs.Grammar.{choice}
-use Rattle.rule_text.specs.Faults.{IsRule, WordFault, spoilt, misplaced, deeper, unknown, FaultHere, FirstFault}
+use Rattle.rule_text.specs.Faults.{fault, IsRule, WordFault, spoilt, misplaced, deeper, unknown, FaultHere, FirstFault}
 use Rattle.rule_text.specs.Lexing.{words_of, Starts}
 use Rattle.rule_text.specs.Names.{GoodNames}
 use Rattle.rule_text.specs.Reading.{Refused, faulty, many}
@@ -54,6 +55,6 @@ module _ {names : List (List ℕ)} {i items : List Node} {o over : Bool} (text r
   pub ends_rule : last.word ≡ End → IsRule names (words_in text) k.new
   ends_rule e = whole_rule text rest k (subst (λ t. Starts (length text) t last.place (words_of (length text) rest) vs) e s).0
 
-  pub end_refused : (f : Fault) → EndFault last (length text) over f → Refused names text f
-  end_refused f (not_ended n e) = subst (Refused names text) (sym e) (faulty good short (first_fault text (not_ended_lem (words_of (length text) rest) k.gives k.split k.follows last.word last.place vs n s)))
-  end_refused f (too_many w p e) = subst (Refused names text) (sym e) (many k.new good short (ends_rule w) (is_over h p))
+  pub end_refused : last.rest.whole ≡ length text → (f : Fault) → EndFault last over f → Refused names text f
+  end_refused same f (not_ended n e) = subst (Refused names text) (sym e) (faulty good short (first_fault text (not_ended_lem (words_of (length text) rest) k.gives k.split k.follows last.word last.place vs n s)))
+  end_refused same f (too_many w p e) = subst (Refused names text) (sym (e ∙ ap (fault TooManyNodes) same)) (many k.new good short (ends_rule w) (is_over h p))

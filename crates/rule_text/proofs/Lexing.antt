@@ -1,9 +1,10 @@
 -- What the first byte, or the first run, of a text leaves of its words.
-use Rattle.std.proofs.Common.{◌≡◌, ℕ, zero, suc, ◌+◌, ◌-◌, ◌<◌, ◌≤◌, true, false, List, [], ◌∷◌, length, get_or, take, drop, Some, sym, refl, ap, ◌∙◌, ⊎_elim, arith, length-drop, length-take}
-use lib.Seq.{take-length}
-use Rattle.std.proofs.lemmas.Bool.Decides.{nat_tests}
+use Rattle.std.proofs.Common.{◌≡◌, ℕ, zero, suc, ◌+◌, ◌-◌, ◌<◌, ◌≤◌, true, false, cond, List, [], ◌∷◌, length, get_or, take, drop, Some, sym, refl, ap, ◌∙◌, ⊎_elim, arith, length-drop, length-take}
 use Rattle.std.proofs.lemmas.Bool.{cond-true, cond-false, cases_Bool}
-use Rattle.rule_text.specs.Words.{Word, name, run_word, mark, in_run, blank, front, words}
+use Rattle.std.proofs.lemmas.List.Folds.{length-prefix_len}
+use Rattle.std.proofs.lemmas.List.Sums.{take_while-cons}
+use Rattle.std.specs.List.{take_while}
+use Rattle.rule_text.specs.Words.{Word, name, run_word, in_run, front, words}
 use Rattle.rule_text.specs.Lexing.{words_of, Starts, Shorter, IsRunWord}
 use Rattle.rule_text.specs.declared.words.Word.{Word as Token}
 use Rattle.rule_text.specs.declared.words.Word.TheVariants.{Name, Nil, Void, Open, Close, Bar, Star, Bang, End}
@@ -16,36 +17,16 @@ front_is (x ∷ xs) (suc n) h all stop =
     ap (λ l. x ∷ l) (front_is xs n (omega arith) (λ k lt. all (suc k) (omega arith)) (λ lt. stop (omega arith)))
     ∙ sym (cond-true (in_run x) (x ∷ front xs) [] (all 0 (omega arith)))
 
--- a blank is passed over
-pub past_blank : (whole b : ℕ) (bs : List ℕ) → length (b ∷ bs) ≤ whole → blank b ≡ true → words_of whole (b ∷ bs) ≡ words_of whole bs
-past_blank whole b bs h e =
-    let no_run : in_run b ≡ false = grind (arith, nat_tests) in
-    let here : whole - length (b ∷ bs) + 1 ≡ whole - length bs = omega arith in
-    cond-false (in_run b) _ _ no_run ∙ cond-true (blank b) _ _ e ∙ ap (λ p. words p false bs) here
+-- the bytes from the front on that are in runs are the first run
+pub take_while_front : (xs : List ℕ) → take_while in_run xs ≡ front xs
+take_while_front [] = refl
+take_while_front (x ∷ xs) = take_while-cons in_run x xs ∙ ap (λ l. cond (in_run x) (x ∷ l) []) (take_while_front xs)
 
--- what `[_, after @ ..]` binds
-pub tail_is : (b : ℕ) (bs : List ℕ) (n : ℕ) → n ≡ length bs → take n (drop 1 (b ∷ bs)) ≡ bs
-tail_is b bs n e = ap (λ k. take k bs) e ∙ take-length bs
+pub take_front : (xs : List ℕ) → take (length (front xs)) xs ≡ front xs
+take_front xs = ap (λ l. take (length l) xs) (sym (take_while_front xs)) ∙ ap (λ k. take k xs) (length-prefix_len in_run xs) ∙ take_while_front xs
 
-pub skip_step : (whole : ℕ) (xs : List ℕ) (n : ℕ) → length xs ≤ whole → 0 < length xs → n ≡ length xs → blank (get_or xs 0 0) ≡ true → words_of whole (take (n - 1) (drop 1 xs)) ≡ words_of whole xs
-skip_step whole [] n h k e t = absurd (omega arith)
-skip_step whole (b ∷ bs) n h k e t = ap (words_of whole) (tail_is b bs (n - 1) (omega arith)) ∙ sym (past_blank whole b bs h t)
-
--- what one mark leaves
-pub mark_step : (whole : ℕ) (text xs : List ℕ) (n : ℕ) (w : Word) → length xs ≤ whole → words_of whole xs ≡ words_of whole text → 0 < length xs → n ≡ length xs → in_run (get_or xs 0 0) ≡ false → blank (get_or xs 0 0) ≡ false → mark (get_or xs 0 0) ≡ w → words_of whole text ≡ (whole - length xs, w) ∷ words_of whole (take (n - 1) (drop 1 xs))
-mark_step whole text [] n w h same k e r t m = absurd (omega arith)
-mark_step whole text (b ∷ bs) n w h same k e r t m =
-    let here : whole - length (b ∷ bs) + 1 ≡ whole - length bs = omega arith in
-    sym same ∙ cond-false (in_run b) _ _ r ∙ cond-false (blank b) _ _ t
-    ∙ ap (λ v. (whole - length (b ∷ bs), v) ∷ words (whole - length (b ∷ bs) + 1) false bs) m
-    ∙ ap (λ p. (whole - length (b ∷ bs), w) ∷ words p false bs) here
-    ∙ ap (λ l. (whole - length (b ∷ bs), w) ∷ words_of whole l) (sym (tail_is b bs (n - 1) (omega arith)))
-
-pub mark_read : (whole : ℕ) (text xs : List ℕ) (n b : ℕ) → length text ≤ whole → length xs ≤ length text → words_of whole xs ≡ words_of whole text → 0 < length xs → n ≡ length xs → get_or xs 0 0 ≡ b → in_run b ≡ false → blank b ≡ false → (words_of whole text ≡ (whole - length xs, mark b) ∷ words_of whole (take (n - 1) (drop 1 xs))) × (length (take (n - 1) (drop 1 xs)) < length text)
-mark_read whole text xs n b h le same k e is r t = (
-  mark_step whole text xs n (mark b) (omega arith) same k e (ap in_run is ∙ r) (ap blank is ∙ t) (ap mark is),
-  simp (length-take, length-drop) (omega arith),
-)
+pub front_le : (xs : List ℕ) → length (front xs) ≤ length xs
+front_le xs = omega (arith, ap length (take_front xs), length-take (length (front xs)) xs)
 
 -- the words after a run
 pub inside : (p : ℕ) (bs : List ℕ) → words p true bs ≡ words (p + length (front bs)) false (drop (length (front bs)) bs)
@@ -64,33 +45,14 @@ inside p (b ∷ bs) =
     ∙ ap (λ l. words (p + length l) false (drop (length l) (b ∷ bs))) (sym f))
     (cases_Bool (in_run b))
 
-front_le : (bs : List ℕ) → length (front bs) ≤ length bs
-front_le [] = omega arith
-front_le (b ∷ bs) = let ih = front_le bs in ⊎_elim
-    (λ e. rw (cond-true (in_run b) (b ∷ front bs) [] e) (omega arith))
-    (λ e. rw (cond-false (in_run b) (b ∷ front bs) [] e) (omega arith))
-    (cases_Bool (in_run b))
-
-pub record RunStep (whole : ℕ) (text xs : List ℕ) (n : ℕ) : Type 0 where
-  pub some : 0 < n
-  pub first : words_of whole text ≡ (whole - length xs, run_word (take n xs)) ∷ words_of whole (drop n xs)
-
-pub run_step : (whole : ℕ) (text xs : List ℕ) (n : ℕ) → length xs ≤ whole → words_of whole xs ≡ words_of whole text → 0 < length xs → in_run (get_or xs 0 0) ≡ true → n ≤ length xs → take n xs ≡ front xs → RunStep whole text xs n
-run_step whole text [] n h same k r le f = absurd (omega arith)
-run_step whole text (b ∷ bs) n h same k r le f =
-    let g = f ∙ cond-true (in_run b) (b ∷ front bs) [] r in
-    let long : n ≡ 1 + length (front bs) = omega (arith, ap length g, length-take n (b ∷ bs)) in
-    let long' : n ≡ suc (length (front bs)) = omega arith in
+pub run_step : (whole : ℕ) (text xs : List ℕ) → length xs ≤ whole → words_of whole xs ≡ words_of whole text → 0 < length xs → in_run (get_or xs 0 0) ≡ true → words_of whole text ≡ (whole - length xs, run_word (front xs)) ∷ words_of whole (drop (length (front xs)) xs)
+run_step whole text [] h same k r = absurd (omega arith)
+run_step whole text (b ∷ bs) h same k r =
+    let f : front (b ∷ bs) ≡ b ∷ front bs = cond-true (in_run b) (b ∷ front bs) [] r in
     let fit = front_le bs in
-    let past : drop n (b ∷ bs) ≡ drop (length (front bs)) bs = ap (λ k. drop k (b ∷ bs)) long' in
-    let here : whole - length (b ∷ bs) + 1 + length (front bs) ≡ whole - length (drop n (b ∷ bs)) = omega (arith, length-drop n (b ∷ bs)) in
-    record {
-      some = omega arith;
-      first =
-          sym same ∙ cond-true (in_run b) _ _ r
-          ∙ ap (λ l. (whole - length (b ∷ bs), run_word l) ∷ words (whole - length (b ∷ bs) + 1) true bs) (sym f)
-          ∙ ap (λ l. (whole - length (b ∷ bs), run_word (take n (b ∷ bs))) ∷ l) (inside _ bs ∙ ap (λ k. words k false (drop (length (front bs)) bs)) here ∙ ap (λ l. words (whole - length (drop n (b ∷ bs))) false l) (sym past));
-    }
+    let here : whole - length (b ∷ bs) + 1 + length (front bs) ≡ whole - length (drop (length (front bs)) bs) = omega (arith, length-drop (length (front bs)) bs) in
+    sym same ∙ cond-true (in_run b) _ _ r
+    ∙ ap (λ l. (whole - length (b ∷ bs), run_word (front (b ∷ bs))) ∷ l) (inside _ bs ∙ ap (λ k. words k false (drop (length (front bs)) bs)) here ∙ ap (λ l. words_of whole (drop (length l) (b ∷ bs))) (sym f))
 
 pub no_run : (xs : List ℕ) → 0 < length xs → length (front xs) ≡ 0 → in_run (get_or xs 0 0) ≡ false
 no_run [] k e = absurd (omega arith)
@@ -107,10 +69,6 @@ first_of (b ∷ bs) ys n e k =
     (λ t. t)
     (λ t. absurd (omega (arith, ap length e, ap length (cond-false (in_run b) (b ∷ front bs) [] t))))
     (cases_Bool (in_run b))
-
-pub no_words : (whole : ℕ) (xs : List ℕ) → length xs ≡ 0 → words_of whole xs ≡ []
-no_words whole [] e = refl
-no_words whole (b ∷ bs) e = absurd (omega arith)
 
 -- a run that is a word is the first of the words
 pub run_starts : (whole p m n : ℕ) (r : List ℕ) (ws vs : List (ℕ × Word)) (t : Token) → IsRunWord r (Some t) → ws ≡ (p, run_word r) ∷ vs → m < n → Starts whole t p ws vs × Shorter t m n

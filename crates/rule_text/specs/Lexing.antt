@@ -3,7 +3,7 @@ use Rattle.std.specs.Prelude.{◌≡◌, ℕ, ◌-◌, ◌<◌, ◌≤◌, false
 use Rattle.refusals.specs.declared.Fault.{Fault}
 use Rattle.rule_text.specs.declared.words.Word.{Word as Token}
 use Rattle.rule_text.specs.declared.words.Word.TheVariants.{Name, Nil, Void, Open, Close, Bar, Star, Bang, End}
-use Rattle.rule_text.specs.declared.words.Placed.{Placed}
+use Rattle.rule_text.specs.declared.rest.Placed.{Placed}
 use Rattle.rule_text.specs.Words.{Word, name, nil, void, open', close', bar, star, bang, no_name, words, run_word}
 use Rattle.rule_text.specs.Faults.{own_fault}
 
@@ -44,7 +44,7 @@ pub record Spoilt (ws : List (ℕ × Word)) (f : Fault) : Type 0 where
 
 -- what reading one word tells
 abbrev pub ReadsWord : ℕ → List ℕ → Result Placed Fault → Type 0
-ReadsWord whole text (Ok n) = Starts whole n.word n.place (words_of whole text) (words_of whole n.rest.now) × Shorter n.word (length n.rest.now) (length text)
+ReadsWord whole text (Ok n) = Starts whole n.word n.place (words_of whole text) (words_of whole n.rest.bytes.now) × Shorter n.word (length n.rest.bytes.now) (length text) × (n.rest.whole ≡ whole)
 ReadsWord whole text (Err f) = Spoilt (words_of whole text) f
 
 -- the token that a run is; none where it is no name

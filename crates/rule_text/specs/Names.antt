@@ -1,7 +1,6 @@
 -- Name lists: which name stands for which test.
-use Rattle.std.specs.Prelude.{◌≡◌, ℕ, zero, suc, ◌*◌, ◌<◌, ◌≤◌, Bool, true, false, cond, ◌&&◌, ◌⊎◌, List, [], ◌∷◌, length, Some, None, codes, Option, nat_eq, slice_index, slice_index_or}
+use Rattle.std.specs.Prelude.{◌≡◌, ℕ, zero, suc, ◌*◌, ◌<◌, ◌≤◌, Bool, true, false, ◌&&◌, ◌⊎◌, List, [], length, position, Some, None, codes, Option, nat_eq, slice_index, slice_index_or}
 use Rattle.std.specs.Borrow.{Bor}
-use Rattle.std.specs.Option.{option_map}
 use Rattle.rule_text.specs.Words.{front, is_test_name}
 
 -- every number below n passes
@@ -15,8 +14,7 @@ is_entry e x = up_to 16 (λ k. nat_eq (slice_index e k) (slice_index x k))
 
 -- the test that a name stands for: the number of the first entry that is this name
 abbrev pub test_named : List (List ℕ) → List ℕ → Option ℕ
-test_named [] x = None
-test_named (e ∷ es) x = cond (is_entry e x) (Some 0) (option_map suc (test_named es x))
+test_named names x = position (λ e. is_entry e x) names
 
 -- x is a test's name, and the entry e is x filled up
 pub record Fills (e x : List ℕ) : Type 0 where
@@ -30,6 +28,11 @@ pub record GoodEntry (names : List (List ℕ)) (i : ℕ) : Type 0 where
   pub fills : Fills (slice_index_or names i []) own
   pub first : i ≡ 0 → own ≡ codes "any"
   pub new : (j : ℕ) → j < i → is_entry (slice_index_or names j []) own ≡ false
+
+-- the first entry that breaks the rules, if any
+abbrev pub FirstBad : List (List ℕ) → Option ℕ → Type 0
+FirstBad names None = (i : ℕ) → i < length names → GoodEntry names i
+FirstBad names (Some i) = (i < length names) × ((j : ℕ) → j < i → GoodEntry names j) × (GoodEntry names i → ⊥)
 
 -- a name list: 1 to 128 entries that keep the rules
 pub record GoodNames (names : List (List ℕ)) : Type 0 where

@@ -6,10 +6,12 @@ use Rattle.refusals.specs.declared.Refusal.{Refusal}
 use Rattle.refusals.specs.declared.Refusal.TheVariants.{Misplaced, TooDeep, TooManyNodes, UnknownName}
 use Rattle.rules.specs.declared.node.Node.{Node}
 use Rattle.rules.specs.declared.node.Join.{Join}
+use Rattle.rules.specs.declared.node.Join.TheVariants.{Chain, Choice}
 use Rattle.rules.specs.declared.node.Shape.{Shape}
 use Rattle.rules.specs.declared.node.Shape.TheVariants.{Leaf, Join as Joining}
 use Rattle.rules.specs.Nodes.{node, grown}
-use Rattle.rule_text.specs.declared.words.Placed.{Placed}
+use Rattle.rule_text.specs.declared.rest.Placed.{Placed}
+use Rattle.rule_text.specs.declared.rest.Rest.{Rest}
 use Rattle.rule_text.specs.declared.words.Word.TheVariants.{Name, End}
 use Rattle.rule_text.specs.Words.{Word, name, nil, void, open', close', bar, star, bang, no_name, stray}
 use Rattle.rule_text.specs.Names.{test_named}
@@ -176,8 +178,8 @@ pub record NameRead (names : List (List ℕ)) (whole : ℕ) (text rest : List �
   pub shorter : length rest < length text
 
 -- what reading the name after `!` does
-abbrev pub Opposite : List (List ℕ) → ℕ → List ℕ → List Node → Bool → List Node → Bool → Result (Bor (List ℕ)) Fault → Type 0
-Opposite names whole text items over items' over' (Ok rest) = (h : NameRead names whole text rest.now) × Adds items over items' over' (node (Leaf (length names + h.test)) 1 ∷ [])
+abbrev pub Opposite : List (List ℕ) → ℕ → List ℕ → List Node → Bool → List Node → Bool → Result Rest Fault → Type 0
+Opposite names whole text items over items' over' (Ok rest) = (h : NameRead names whole text rest.bytes.now) × (rest.whole ≡ whole) × Adds items over items' over' (node (Leaf (length names + h.test)) 1 ∷ [])
 Opposite names whole text items over items' over' (Err f) = (d : ℕ) → FaultAt names whole turns d (words_of whole text) f
 
 -- the name that a word is, or the refusal of a word that is none
@@ -191,21 +193,26 @@ TestOf names x p (Ok t) = test_named names x ≡ Some t
 TestOf names x p (Err f) = (test_named names x ≡ None) × (f ≡ fault UnknownName p)
 
 -- what a reader of level l does
-abbrev pub Outcome : List (List ℕ) → Level → ℕ → List ℕ → ℕ → List Node → Bool → List Node → Bool → Result (Bor (List ℕ)) Fault → Type 0
-Outcome names l whole text d items over items' over' (Ok rest) = Done names l l d whole text rest.now items over items' over'
+abbrev pub Outcome : List (List ℕ) → Level → ℕ → List ℕ → ℕ → List Node → Bool → List Node → Bool → Result Rest Fault → Type 0
+Outcome names l whole text d items over items' over' (Ok rest) = Done names l l d whole text rest.bytes.now items over items' over' × (rest.whole ≡ whole)
 Outcome names l whole text d items over items' over' (Err f) = Fails names l wants d whole (words_of whole text) f
 
+-- what a chain or a choice goes on with
+abbrev pub operand : Join → Level
+operand Chain = item
+operand Choice = chain
+
 -- what reading a further l and joining it to what stood before does
-abbrev pub Joins : List (List ℕ) → Level → Join → ℕ → List ℕ → ℕ → List Node → Bool → List Node → Bool → Result (Bor (List ℕ)) Fault → Type 0
-Joins names l j whole text d items over items' over' (Ok rest) = Joined names l j d whole text rest.now items over items' over'
+abbrev pub Joins : List (List ℕ) → Level → Join → ℕ → List ℕ → ℕ → List Node → Bool → List Node → Bool → Result Rest Fault → Type 0
+Joins names l j whole text d items over items' over' (Ok rest) = Joined names l j d whole text rest.bytes.now items over items' over' × (rest.whole ≡ whole)
 Joins names l j whole text d items over items' over' (Err f) = Fails names l wants d whole (words_of whole text) f
 
 -- why a text is refused after a whole rule: more than the end stands there, or it is the end and there are too many nodes
-pub data EndFault (last : Placed) (whole : ℕ) (over : Bool) (f : Fault) : Type 0 where
-  not_ended : (last.word ≢ End) → f ≡ fault Misplaced last.place → EndFault last whole over f
-  too_many : last.word ≡ End → over ≡ true → f ≡ fault TooManyNodes whole → EndFault last whole over f
+pub data EndFault (last : Placed) (over : Bool) (f : Fault) : Type 0 where
+  not_ended : (last.word ≢ End) → f ≡ fault Misplaced last.place → EndFault last over f
+  too_many : last.word ≡ End → over ≡ true → f ≡ fault TooManyNodes last.rest.whole → EndFault last over f
 
 -- what looking at the word after a whole rule tells
-abbrev pub Ends : Placed → ℕ → Bool → Result (Unit {0}) Fault → Type 0
-Ends last whole over (Ok u) = (last.word ≡ End) × (over ≡ false)
-Ends last whole over (Err f) = EndFault last whole over f
+abbrev pub Ends : Placed → Bool → Result (Unit {0}) Fault → Type 0
+Ends last over (Ok u) = (last.word ≡ End) × (over ≡ false)
+Ends last over (Err f) = EndFault last over f

@@ -9,13 +9,16 @@ ghost use Rattle.rule_text.specs.Reading.{Reads, Reading};
 
 mod names;
 mod reader;
+mod rest;
 mod words;
 
-pub use names::{Entry, MAX_NAMES, check_names, unfilled};
+pub use names::{Entry, MAX_NAMES, Names, unfilled};
 pub use reader::MAX_DEPTH;
+use reader::Reader;
 use refusals::{Fault, Refusal};
+use rest::{Placed, Rest};
 use rules::{Draft, Rule};
-use words::{Placed, Word};
+use words::Word;
 
 // A text has at most this many bytes.
 pub const MAX_TEXT: usize = 4096;
@@ -25,28 +28,19 @@ fn check_length(text: &[u8]) -> Result<(), Fault>
     ensures { MatchResult result (λ _. length text.now ≤ 4096) (λ f. (4096 < length text.now) × (f ≡ fault TextTooLong 4096)) }
 {
     if text.len() > MAX_TEXT {
-        return Err(Fault {
-            refusal: Refusal::TextTooLong,
-            place: MAX_TEXT,
-        });
+        return Err(Refusal::TextTooLong.at(MAX_TEXT));
     }
     Ok(())
 }
 
 // Refuses what stands after a whole rule, unless it is the end, and then a draft of too many nodes.
-fn check_end(last: Placed<'_>, whole: usize, draft: &Draft) -> Result<(), Fault>
-    ensures { Ends last.entry whole draft.now.over result }
+fn check_end(last: Placed<'_>, draft: &Draft) -> Result<(), Fault>
+    ensures { Ends last.entry draft.now.over result }
 {
     match last.word {
         Word::End if draft.is_complete() => Ok(()),
-        Word::End => Err(Fault {
-            refusal: Refusal::TooManyNodes,
-            place: whole,
-        }),
-        _ => Err(Fault {
-            refusal: Refusal::Misplaced,
-            place: last.place,
-        }),
+        Word::End => Err(Refusal::TooManyNodes.at(last.rest.whole)),
+        _ => Err(Refusal::Misplaced.at(last.place)),
     }
 }
 
@@ -54,12 +48,12 @@ fn check_end(last: Placed<'_>, whole: usize, draft: &Draft) -> Result<(), Fault>
 fn read_drafting(names: &[Entry], text: &[u8], rule: &mut Rule) -> Result<(), Fault>
     ensures { Reads names.now text.now rule.old.nodes.items rule.new.nodes.items result }
 {
-    names::check_names(names)?;
+    let names = Names::new(names)?;
     check_length(text)?;
     rule.draft.clear();
-    let rest = reader::choice(names, text.len(), text, 0, &mut rule.draft)?;
-    let last = words::next_word(text.len(), rest)?;
-    check_end(last, text.len(), &rule.draft)?;
+    let rest = Reader::new(names).choice(Rest::new(text), &mut rule.draft)?;
+    let last = rest.next_word()?;
+    check_end(last, &rule.draft)?;
     // The draft is a whole rule, and none of it was left out, so it is adopted.
     rule.adopt()
 }

@@ -1,55 +1,25 @@
-// The reader: the grammar's four levels, each a function that adds what it reads to a draft.
-ghost use Rattle.std.specs.Prelude.{◌≡◌, ◌<◌, ◌≤◌, length, MatchResult};
-ghost use Rattle.refusals.specs.declared.Refusal.TheVariants.{Misplaced, TooDeep};
+// The reader: the grammar's four levels, each a method that adds what it reads to a draft.
+ghost use Rattle.std.specs.Prelude.{◌≡◌, ◌+◌, ◌<◌, ◌≤◌, length, MatchResult};
+ghost use Rattle.refusals.specs.declared.Refusal.TheVariants.{TooDeep};
 ghost use Rattle.rule_text.specs.Faults.{fault};
 ghost use Rattle.rule_text.specs.Grammar.{choice as choice_level, chain as chain_level, item as item_level, atom as atom_level};
-ghost use Rattle.rule_text.specs.Names.{GoodNames};
-ghost use Rattle.rule_text.specs.Readers.{TestOf, NameIn, Opposite, Outcome, Joins};
-ghost use Rattle.rules.specs.declared.node.Join.TheVariants.{Chain as chain_join, Choice as choice_join};
+ghost use Rattle.rule_text.specs.Readers.{TestOf, NameIn, Opposite, Outcome, Joins, operand};
 
-use crate::names::{Entry, find};
-use crate::words::{Placed, Word, next_word};
+use crate::names::Names;
+use crate::rest::{Placed, Rest};
+use crate::words::Word;
 use refusals::{Fault, Refusal};
 use rules::{Draft, Join, Shape};
 
 // Brackets stand at most this deep.
 pub const MAX_DEPTH: usize = 16;
 
-// Refuses a bracket at this place where that many stand open already.
-fn check_depth(depth: usize, place: usize) -> Result<(), Fault>
-    ensures { MatchResult result (λ _. depth < 16) (λ f. (16 ≤ depth) × (f ≡ fault TooDeep place)) }
-{
-    if depth >= MAX_DEPTH {
-        return Err(Fault {
-            refusal: Refusal::TooDeep,
-            place,
-        });
-    }
-    Ok(())
-}
-
-// The test that a name stands for.
-fn test_of(names: &[Entry], name: &[u8], place: usize) -> Result<u8, Fault>
-    requires { length names.now ≤ 128 }
-    ensures { TestOf names.now name.now place result }
-{
-    match find(names, name) {
-        Some(t) => Ok(t as u8),
-        None => Err(Fault {
-            refusal: Refusal::UnknownName,
-            place,
-        }),
-    }
-}
-
-// The refusal of a word that is not allowed at this place.
-fn misplaced(place: usize) -> Fault
-    ensures { result ≡ fault Misplaced place }
-{
-    Fault {
-        refusal: Refusal::Misplaced,
-        place,
-    }
+// Reads what stands in so many brackets, with these names.
+#[derive(Clone, Copy)]
+pub(crate) struct Reader<'a> {
+    names: Names<'a>,
+    depth: usize,
+    ghost shallow: { depth ≤ 16 },
 }
 
 // The name that a word is, where only a name may stand.
@@ -58,178 +28,141 @@ fn name_in<'a>(next: Placed<'a>) -> Result<&'a [u8], Fault>
 {
     match next.word {
         Word::Name(name) => Ok(name),
-        _ => Err(misplaced(next.place)),
+        _ => Err(Refusal::Misplaced.at(next.place)),
     }
 }
 
-// The name after `!`: a leaf with the opposite of its test.
-fn opposite<'a>(
-    names: &[Entry],
-    whole: usize,
-    text: &'a [u8],
-    draft: &mut Draft,
-) -> Result<&'a [u8], Fault>
-    requires good { GoodNames names.now }
-    requires fits { length text.now ≤ whole }
-    ensures { Opposite names.now whole text.now draft.old.nodes.items draft.old.over draft.new.nodes.items draft.new.over result }
-{
-    let next = next_word(whole, text)?;
-    let name = name_in(next)?;
-    let test = test_of(names, name, next.place)?;
-    draft.push(Shape::Leaf(names.len() as u8 + test));
-    Ok(next.rest)
-}
-
-// A choice: one chain, then any number of `|` and a chain.
-#[cycle(readers)]
-pub(crate) fn choice<'a>(
-    names: &[Entry],
-    whole: usize,
-    text: &'a [u8],
-    depth: usize,
-    draft: &mut Draft,
-) -> Result<&'a [u8], Fault>
-    requires good { GoodNames names.now }
-    requires fits { length text.now ≤ whole }
-    requires shallow { depth ≤ 16 }
-    ensures { Outcome names.now choice_level whole text.now depth draft.old.nodes.items draft.old.over draft.new.nodes.items draft.new.over result }
-{
-    let mut rest = chain(names, whole, text, depth, draft)?;
-    loop {
-        let next = next_word(whole, rest)?;
-        let Word::Bar = next.word else {
-            return Ok(rest);
-        };
-        rest = further_chain(names, whole, next.rest, depth, draft)?;
+impl<'a> Reader<'a> {
+    // Reads what stands in no brackets.
+    pub(crate) fn new(names: Names<'a>) -> Reader<'a>
+        ensures names { result.names ≡ names.entry }
+        ensures depth { result.depth ≡ 0 }
+    {
+        Reader { names, depth: 0 }
     }
-}
 
-// A chain that a choice goes on with: the choice of what was read before and of this chain.
-#[cycle(readers)]
-fn further_chain<'a>(
-    names: &[Entry],
-    whole: usize,
-    text: &'a [u8],
-    depth: usize,
-    draft: &mut Draft,
-) -> Result<&'a [u8], Fault>
-    requires good { GoodNames names.now }
-    requires fits { length text.now ≤ whole }
-    requires shallow { depth ≤ 16 }
-    ensures { Joins names.now chain_level choice_join whole text.now depth draft.old.nodes.items draft.old.over draft.new.nodes.items draft.new.over result }
-{
-    let rest = chain(names, whole, text, depth, draft)?;
-    draft.push(Shape::Join(Join::Choice));
-    Ok(rest)
-}
-
-// A chain: one or more items.
-#[cycle(readers)]
-fn chain<'a>(
-    names: &[Entry],
-    whole: usize,
-    text: &'a [u8],
-    depth: usize,
-    draft: &mut Draft,
-) -> Result<&'a [u8], Fault>
-    requires good { GoodNames names.now }
-    requires fits { length text.now ≤ whole }
-    requires shallow { depth ≤ 16 }
-    ensures { Outcome names.now chain_level whole text.now depth draft.old.nodes.items draft.old.over draft.new.nodes.items draft.new.over result }
-{
-    let mut rest = item(names, whole, text, depth, draft)?;
-    loop {
-        let next = next_word(whole, rest)?;
-        let (Word::Name(_) | Word::Nil | Word::Void | Word::Bang | Word::Open) = next.word else {
-            return Ok(rest);
-        };
-        rest = further_item(names, whole, rest, depth, draft)?;
-    }
-}
-
-// An item that a chain goes on with: the chain of what was read before and then of this item.
-#[cycle(readers)]
-fn further_item<'a>(
-    names: &[Entry],
-    whole: usize,
-    text: &'a [u8],
-    depth: usize,
-    draft: &mut Draft,
-) -> Result<&'a [u8], Fault>
-    requires good { GoodNames names.now }
-    requires fits { length text.now ≤ whole }
-    requires shallow { depth ≤ 16 }
-    ensures { Joins names.now item_level chain_join whole text.now depth draft.old.nodes.items draft.old.over draft.new.nodes.items draft.new.over result }
-{
-    let rest = item(names, whole, text, depth, draft)?;
-    draft.push(Shape::Join(Join::Chain));
-    Ok(rest)
-}
-
-// An item: an atom, then any number of `*`.
-#[cycle(readers)]
-fn item<'a>(
-    names: &[Entry],
-    whole: usize,
-    text: &'a [u8],
-    depth: usize,
-    draft: &mut Draft,
-) -> Result<&'a [u8], Fault>
-    requires good { GoodNames names.now }
-    requires fits { length text.now ≤ whole }
-    requires shallow { depth ≤ 16 }
-    ensures { Outcome names.now item_level whole text.now depth draft.old.nodes.items draft.old.over draft.new.nodes.items draft.new.over result }
-{
-    let mut rest = atom(names, whole, text, depth, draft)?;
-    loop {
-        let next = next_word(whole, rest)?;
-        let Word::Star = next.word else {
-            return Ok(rest);
-        };
-        rest = next.rest;
-        draft.push(Shape::Repeat);
-    }
-}
-
-// An atom: a name, `!` and a name, `nil`, `void`, or a choice in brackets.
-#[cycle(readers)]
-fn atom<'a>(
-    names: &[Entry],
-    whole: usize,
-    text: &'a [u8],
-    depth: usize,
-    draft: &mut Draft,
-) -> Result<&'a [u8], Fault>
-    requires good { GoodNames names.now }
-    requires fits { length text.now ≤ whole }
-    requires shallow { depth ≤ 16 }
-    ensures { Outcome names.now atom_level whole text.now depth draft.old.nodes.items draft.old.over draft.new.nodes.items draft.new.over result }
-{
-    let next = next_word(whole, text)?;
-    match next.word {
-        Word::Name(name) => {
-            let test = test_of(names, name, next.place)?;
-            draft.push(Shape::Leaf(test));
-            Ok(next.rest)
+    // Reads what stands in the brackets that open at this place; refuses them where too many stand open already.
+    fn deeper(self, place: usize) -> Result<Reader<'a>, Fault>
+        ensures { MatchResult result (λ inner. (self.entry.depth < 16) × (inner.names ≡ self.entry.names) × (inner.depth ≡ self.entry.depth + 1)) (λ f. (16 ≤ self.entry.depth) × (f ≡ fault TooDeep place)) }
+    {
+        if self.depth >= MAX_DEPTH {
+            return Err(Refusal::TooDeep.at(place));
         }
-        Word::Nil => {
-            draft.push(Shape::Nil);
-            Ok(next.rest)
+        Ok(Reader {
+            names: self.names,
+            depth: self.depth + 1,
+        })
+    }
+
+    // The test that a name stands for.
+    fn test_of(self, name: &[u8], place: usize) -> Result<u8, Fault>
+        ensures { TestOf self.entry.names.entries.now name.now place result }
+    {
+        self.names.find(name).ok_or(Refusal::UnknownName.at(place))
+    }
+
+    // The name after `!`: a leaf with the opposite of its test.
+    fn opposite(self, text: Rest<'a>, draft: &mut Draft) -> Result<Rest<'a>, Fault>
+        ensures { Opposite self.entry.names.entries.now text.entry.whole text.entry.bytes.now draft.old.nodes.items draft.old.over draft.new.nodes.items draft.new.over result }
+    {
+        let next = text.next_word()?;
+        let name = name_in(next)?;
+        let test = self.test_of(name, next.place)?;
+        draft.push(Shape::Leaf(self.names.count() + test));
+        Ok(next.rest)
+    }
+
+    // A choice: one chain, then any number of `|` and a chain.
+    #[cycle(readers)]
+    pub(crate) fn choice(self, text: Rest<'a>, draft: &mut Draft) -> Result<Rest<'a>, Fault>
+        ensures { Outcome self.entry.names.entries.now choice_level text.entry.whole text.entry.bytes.now self.entry.depth draft.old.nodes.items draft.old.over draft.new.nodes.items draft.new.over result }
+    {
+        let mut rest = self.chain(text, draft)?;
+        loop {
+            let next = rest.next_word()?;
+            let Word::Bar = next.word else {
+                return Ok(rest);
+            };
+            rest = self.further(Join::Choice, next.rest, draft)?;
         }
-        Word::Void => {
-            draft.push(Shape::Void);
-            Ok(next.rest)
+    }
+
+    // A chain: one or more items.
+    #[cycle(readers)]
+    fn chain(self, text: Rest<'a>, draft: &mut Draft) -> Result<Rest<'a>, Fault>
+        ensures { Outcome self.entry.names.entries.now chain_level text.entry.whole text.entry.bytes.now self.entry.depth draft.old.nodes.items draft.old.over draft.new.nodes.items draft.new.over result }
+    {
+        let mut rest = self.item(text, draft)?;
+        loop {
+            let next = rest.next_word()?;
+            let (Word::Name(_) | Word::Nil | Word::Void | Word::Bang | Word::Open) = next.word
+            else {
+                return Ok(rest);
+            };
+            rest = self.further(Join::Chain, rest, draft)?;
         }
-        Word::Bang => opposite(names, whole, next.rest, draft),
-        Word::Open => {
-            check_depth(depth, next.place)?;
-            let rest = choice(names, whole, next.rest, depth + 1, draft)?;
-            let last = next_word(whole, rest)?;
-            match last.word {
-                Word::Close => Ok(last.rest),
-                _ => Err(misplaced(last.place)),
+    }
+
+    // What a chain or a choice goes on with, an item or a chain, and the join of what was read before and of it.
+    #[cycle(readers)]
+    fn further(self, join: Join, text: Rest<'a>, draft: &mut Draft) -> Result<Rest<'a>, Fault>
+        ensures { Joins self.entry.names.entries.now (operand join) join text.entry.whole text.entry.bytes.now self.entry.depth draft.old.nodes.items draft.old.over draft.new.nodes.items draft.new.over result }
+    {
+        let rest = match join {
+            Join::Chain => self.item(text, draft)?,
+            Join::Choice => self.chain(text, draft)?,
+        };
+        draft.push(Shape::Join(join));
+        Ok(rest)
+    }
+
+    // An item: an atom, then any number of `*`.
+    #[cycle(readers)]
+    fn item(self, text: Rest<'a>, draft: &mut Draft) -> Result<Rest<'a>, Fault>
+        ensures { Outcome self.entry.names.entries.now item_level text.entry.whole text.entry.bytes.now self.entry.depth draft.old.nodes.items draft.old.over draft.new.nodes.items draft.new.over result }
+    {
+        let mut rest = self.atom(text, draft)?;
+        loop {
+            let next = rest.next_word()?;
+            let Word::Star = next.word else {
+                return Ok(rest);
+            };
+            rest = next.rest;
+            draft.push(Shape::Repeat);
+        }
+    }
+
+    // An atom: a name, `!` and a name, `nil`, `void`, or a choice in brackets.
+    #[cycle(readers)]
+    fn atom(self, text: Rest<'a>, draft: &mut Draft) -> Result<Rest<'a>, Fault>
+        ensures { Outcome self.entry.names.entries.now atom_level text.entry.whole text.entry.bytes.now self.entry.depth draft.old.nodes.items draft.old.over draft.new.nodes.items draft.new.over result }
+    {
+        let next = text.next_word()?;
+        match next.word {
+            Word::Name(name) => {
+                let test = self.test_of(name, next.place)?;
+                draft.push(Shape::Leaf(test));
+                Ok(next.rest)
             }
+            Word::Nil => {
+                draft.push(Shape::Nil);
+                Ok(next.rest)
+            }
+            Word::Void => {
+                draft.push(Shape::Void);
+                Ok(next.rest)
+            }
+            Word::Bang => self.opposite(next.rest, draft),
+            Word::Open => {
+                let inner = self.deeper(next.place)?;
+                let rest = inner.choice(next.rest, draft)?;
+                let last = rest.next_word()?;
+                match last.word {
+                    Word::Close => Ok(last.rest),
+                    _ => Err(Refusal::Misplaced.at(last.place)),
+                }
+            }
+            _ => Err(Refusal::Misplaced.at(next.place)),
         }
-        _ => Err(misplaced(next.place)),
     }
 }

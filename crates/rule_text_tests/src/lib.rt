@@ -3,33 +3,23 @@
 
 #[cfg(test)]
 mod tests {
-    use rule_text::{Entry, read};
-    use rules::{Rule, Shape};
+    use refusals::{Fault, Refusal};
+    use rule_text::{Entry, Names, read};
+    use rules::{Node, Rule, Shape};
     use std::alloc::{AllocError, Global};
     use std::test::Fail;
 
     // A name, filled up with 0 bytes.
     fn entry(name: &[u8]) -> Entry {
-        let mut filled = [0u8; 16];
-        for i in 0..16 {
-            if i < name.len() {
-                filled[i] = name[i];
-            }
-        }
+        let mut filled = [0; 16];
+        let len = name.len().min(16);
+        filled[..len].copy_from_slice(&name[..len]);
         filled
     }
 
-    // The number and the place of the refusal; none where the text is taken.
-    fn answer(
-        heap: Global,
-        names: &[Entry],
-        text: &[u8],
-    ) -> Result<Option<(u8, usize)>, AllocError> {
-        let mut rule = Rule::new(heap)?;
-        match read(names, text, &mut rule) {
-            Ok(()) => Ok(None),
-            Err(fault) => Ok(Some((fault.refusal.number(), fault.place))),
-        }
+    // What reading the text into a fresh rule answers.
+    fn answer(heap: Global, names: &[Entry], text: &[u8]) -> Result<Result<(), Fault>, AllocError> {
+        Ok(read(names, text, &mut Rule::new(heap)?))
     }
 
     // A list of so many names: any, and then names of three letters.
@@ -68,7 +58,10 @@ mod tests {
         for (name, good) in table {
             let names = [entry(b"any"), entry(b"a"), entry(name), entry(b"nil")];
             let place = if good { 48 } else { 32 };
-            assert_eq!(rt; answer(heap, &names, b"a")?, Some((18, place)));
+            assert_eq!(rt;
+                answer(heap, &names, b"a")?,
+                Err(Refusal::BadNames.at(place))
+            );
         }
         Ok(())
     }
@@ -76,34 +69,53 @@ mod tests {
     #[test]
     fn lists(rt: HostRuntime) -> Result<(), Fail> {
         let heap = rt.alloc();
-        assert_eq!(rt; answer(heap, &[], b"any")?, Some((18, 0)));
+        assert_eq!(rt; answer(heap, &[], b"any")?, Err(Refusal::BadNames.at(0)));
         assert_eq!(rt;
             answer(heap, &[entry(b"a"), entry(b"any")], b"a")?,
-            Some((18, 0))
+            Err(Refusal::BadNames.at(0))
         );
-        assert_eq!(rt; answer(heap, &[entry(b"any")], b"any")?, None);
-        assert_eq!(rt; answer(heap, &many_names(heap, 128)?, b"any xaf")?, None);
+        assert_eq!(rt; answer(heap, &[entry(b"any")], b"any")?, Ok(()));
+        assert_eq!(rt; answer(heap, &many_names(heap, 128)?, b"any xaf")?, Ok(()));
         assert_eq!(rt;
             answer(heap, &many_names(heap, 129)?, b"any")?,
-            Some((18, 0))
+            Err(Refusal::BadNames.at(0))
         );
+        Ok(())
+    }
+
+    #[test]
+    fn told(rt: HostRuntime) -> Result<(), Fail> {
+        let entries = [entry(b"any"), entry(b"abcdefghijklmnop")];
+        let Ok(names) = Names::new(&entries) else {
+            return Err(Fail::new("refused"));
+        };
+        assert_eq!(rt; names.count(), 2);
+        assert_eq!(rt; names.name(0), b"any".as_slice());
+        assert_eq!(rt; names.name(1), b"abcdefghijklmnop".as_slice());
+        assert!(rt; names.name(2).is_empty());
         Ok(())
     }
 
     #[test]
     fn order_of_checks(rt: HostRuntime) -> Result<(), Fail> {
         let heap = rt.alloc();
-        let mut long = Vec::new(heap);
-        for _ in 0..4097 {
-            long.push(b'9')?;
-        }
+        let long = vec![in heap; b'9'; 4097]?;
         let good = [entry(b"any"), entry(b"a")];
         let bad = [entry(b"any"), entry(b"any")];
-        assert_eq!(rt; answer(heap, &bad, &long)?, Some((18, 16)));
-        assert_eq!(rt; answer(heap, &bad, b"9")?, Some((18, 16)));
-        assert_eq!(rt; answer(heap, &good, &long)?, Some((17, 4096)));
-        assert_eq!(rt; answer(heap, &good, b"b 9")?, Some((15, 0)));
-        assert_eq!(rt; answer(heap, &good, b"a 9 b")?, Some((12, 2)));
+        assert_eq!(rt; answer(heap, &bad, &long)?, Err(Refusal::BadNames.at(16)));
+        assert_eq!(rt; answer(heap, &bad, b"9")?, Err(Refusal::BadNames.at(16)));
+        assert_eq!(rt;
+            answer(heap, &good, &long)?,
+            Err(Refusal::TextTooLong.at(4096))
+        );
+        assert_eq!(rt;
+            answer(heap, &good, b"b 9")?,
+            Err(Refusal::UnknownName.at(0))
+        );
+        assert_eq!(rt;
+            answer(heap, &good, b"a 9 b")?,
+            Err(Refusal::NotAName.at(2))
+        );
         Ok(())
     }
 
@@ -113,15 +125,12 @@ mod tests {
         let names = many_names(heap, 128)?;
         let mut rule = Rule::new(heap)?;
         assert!(rt; read(&names, b"! xhp", &mut rule).is_ok());
-        let nodes = rule.nodes();
-        assert!(rt; nodes.len() == 1);
-        match nodes[0].shape {
-            Shape::Leaf(test) => {
-                assert_eq!(rt; test, 255);
-                Ok(())
-            },
-            _ => Err(Fail::new("no leaf")),
-        }
+        let leaf = Node {
+            shape: Shape::Leaf(255),
+            size: 1,
+        };
+        assert_eq!(rt; rule.nodes(), [leaf].as_slice());
+        Ok(())
     }
 
     #[test]

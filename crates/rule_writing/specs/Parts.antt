@@ -1,7 +1,6 @@
 -- Parts of a rule's list: what the inner functions write of each.
-use Rattle.std.specs.Prelude.{◌≡◌, ℕ, zero, suc, ◌+◌, ◌-◌, ◌*◌, ◌≤◌, max, Bool, true, false, cond, List, [], ◌++◌, length, take, drop, Some, None, Ok, Err, codes, Result, nat_lt}
+use Rattle.std.specs.Prelude.{◌≡◌, ℕ, zero, suc, ◌+◌, ◌-◌, ◌*◌, ◌≤◌, max, Bool, true, false, cond, List, [], ◌++◌, length, take, drop, None, Ok, Err, codes, Result, nat_lt}
 use Rattle.refusals.specs.declared.Fault.{Fault}
-use Rattle.refusals.specs.declared.Refusal.TheVariants.{UnknownName}
 use Rattle.rules.specs.declared.node.Node.{Node}
 use Rattle.rules.specs.declared.node.Form.{Form}
 use Rattle.rules.specs.declared.node.Form.TheVariants.{Void, Nil, Leaf, Join, Repeat}
@@ -68,11 +67,6 @@ pub record Puts (text before : List ℕ) (at : ℕ) (after : List ℕ) (end : �
 -- each test of a list has a name
 abbrev pub AllNamed : List (List ℕ) → List Node → Type 0
 AllNamed names ns = FirstTest (2 * length names) ns None
-
--- what looking for a test without a name tells
-abbrev pub NamesTests : List (List ℕ) → List Node → Result (Unit {0}) Fault → Type 0
-NamesTests names ns (Ok u) = AllNamed names ns
-NamesTests names ns (Err f) = (f.refusal ≡ UnknownName) × FirstTest (2 * length names) ns (Some f.place)
 
 -- what judging a text's extent tells
 abbrev pub Judges : ℕ → ℕ → ℕ → Result (Unit {0}) Fault → Type 0

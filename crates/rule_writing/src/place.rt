@@ -17,14 +17,13 @@ pub(crate) enum Place {
 pub(crate) fn needs_brackets(place: Place, child: Join) -> bool
     ensures { result ≡ needs_brackets place child }
 {
-    match (place, child) {
-        (Place::Whole, _) => false,
-        (Place::Left(Join::Chain), Join::Choice) => true,
-        (Place::Left(_), _) => false,
-        (Place::Right(Join::Choice), Join::Chain) => false,
-        (Place::Right(_), _) => true,
-        (Place::Repeated, _) => true,
-    }
+    matches!(
+        (place, child),
+        (Place::Left(Join::Chain), Join::Choice)
+            | (Place::Right(Join::Chain), _)
+            | (Place::Right(Join::Choice), Join::Choice)
+            | (Place::Repeated, _)
+    )
 }
 
 // What stands between the two parts of a chain or a choice.

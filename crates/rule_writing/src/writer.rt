@@ -1,9 +1,12 @@
 // The writer: how much room the text of each node takes, and its bytes.
-ghost use Rattle.std.specs.Prelude.{◌≡◌, ◌+◌, ◌*◌, ◌<◌, ◌≤◌, max, cond, [], ◌++◌, length, codes};
+ghost use Rattle.std.specs.Prelude.{◌≡◌, ◌+◌, ◌*◌, ◌<◌, ◌≤◌, max, cond, [], ◌++◌, length, codes, Some, MatchResult};
+ghost use Rattle.refusals.specs.declared.Refusal.TheVariants.{UnknownName};
+ghost use Rattle.rules.specs.Nodes.{FirstTest};
 ghost use Rattle.rule_writing.specs.Parts.{AllNamed, leaf_text, text_at, height_in, length_in, Measured, Puts};
 
 use crate::place::{Place, between, needs_brackets};
-use rule_text::{Entry, unfilled};
+use refusals::{Fault, Refusal};
+use rule_text::Names;
 use rules::{Form, Rule};
 
 // How many bytes a text has, and how deep its brackets stand.
@@ -13,19 +16,12 @@ pub(crate) struct Extent {
     pub depth: usize,
 }
 
-// What is written of a leaf: nothing or `!`, and then a name.
-fn leaf_parts(names: &[Entry], test: u8) -> (&'static [u8], &[u8])
-    requires { test < 2 * length names.now }
-    ensures text { result.0.now ++ result.1.now ≡ leaf_text names.now test }
-    ensures mark { length result.0.now ≤ 1 }
-    ensures name { length result.1.now ≤ 16 }
-{
-    let t = test as usize;
-    if t < names.len() {
-        (b"", unfilled(&names[t]))
-    } else {
-        (b"!", unfilled(&names[t - names.len()]))
-    }
+// Writes the nodes of a rule, each test of which has a name.
+#[derive(Clone, Copy)]
+pub(crate) struct Writer<'a> {
+    names: Names<'a>,
+    rule: &'a Rule,
+    ghost named: { AllNamed names.entries.now rule.now.nodes.items },
 }
 
 // The extent of two texts, with so many bytes between them, in brackets or not.
@@ -50,44 +46,6 @@ fn joined(left: Extent, gap: usize, right: Extent, brackets: bool) -> Extent
     }
 }
 
-// The extent of the text of node p.
-pub(crate) fn measure(names: &[Entry], rule: &Rule, place: Place, p: usize) -> Extent
-    requires within { p < length rule.now.nodes.items }
-    requires named { AllNamed names.now rule.now.nodes.items }
-    ensures { Measured names.now rule.now.nodes.items place p result.length result.depth }
-{
-    match rule.form(p) {
-        Form::Void => Extent {
-            length: 4,
-            depth: 0,
-        },
-        Form::Nil => Extent {
-            length: 3,
-            depth: 0,
-        },
-        Form::Leaf(test) => {
-            let (mark, name) = leaf_parts(names, test);
-            Extent {
-                length: mark.len() + name.len(),
-                depth: 0,
-            }
-        }
-        Form::Repeat(child) => {
-            let inner = measure(names, rule, Place::Repeated, child);
-            Extent {
-                length: inner.length + 1,
-                depth: inner.depth,
-            }
-        }
-        Form::Join(join, left, right) => joined(
-            measure(names, rule, Place::Left(join), left),
-            between(join).len(),
-            measure(names, rule, Place::Right(join), right),
-            needs_brackets(place, join),
-        ),
-    }
-}
-
 // What stands around a text that needs brackets, or needs none.
 fn brackets(needed: bool) -> (&'static [u8], &'static [u8])
     ensures open { result.0.now ≡ cond needed (codes "(") [] }
@@ -96,49 +54,133 @@ fn brackets(needed: bool) -> (&'static [u8], &'static [u8])
     if needed { (b"(", b")") } else { (b"", b"") }
 }
 
-// Writes these bytes from a place on, and tells the place behind them.
-fn put_bytes(memory: &mut [u8], at: usize, bytes: &[u8]) -> usize
-    requires { at + length bytes.now ≤ length memory.old }
-    ensures { Puts bytes.now memory.old at memory.new result }
-{
-    let end = at + bytes.len();
-    memory[at..end].copy_from_slice(bytes);
-    end
+// A memory, and the place in it that is written next.
+#[derive(Drop)]
+pub(crate) struct Page<'m> {
+    memory: &'m mut [u8],
+    at: usize,
 }
 
-// Writes the text of node p from a place on, and tells the place behind it.
-pub(crate) fn put(
-    names: &[Entry],
-    rule: &Rule,
-    place: Place,
-    p: usize,
-    memory: &mut [u8],
-    at: usize,
-) -> usize
-    requires within { p < length rule.now.nodes.items }
-    requires named { AllNamed names.now rule.now.nodes.items }
-    requires room { at + length (text_at names.now rule.now.nodes.items place p) ≤ length memory.old }
-    ensures { Puts (text_at names.now rule.now.nodes.items place p) memory.old at memory.new result }
-{
-    match rule.form(p) {
-        Form::Void => put_bytes(memory, at, b"void"),
-        Form::Nil => put_bytes(memory, at, b"nil"),
-        Form::Leaf(test) => {
-            let (mark, name) = leaf_parts(names, test);
-            let marked = put_bytes(memory, at, mark);
-            put_bytes(memory, marked, name)
+impl<'m> Page<'m> {
+    // All of a memory, from its front on.
+    pub(crate) fn new(memory: &'m mut [u8]) -> Page<'m>
+        ensures same { result.memory.ghost_name ≡ memory.entry.ghost_name }
+        ensures memory { result.memory.now ≡ memory.old }
+        ensures front { result.at ≡ 0 }
+    {
+        Page { memory, at: 0 }
+    }
+
+    // How many bytes are written.
+    pub(crate) fn len(&self) -> usize
+        ensures { result ≡ self.now.at }
+    {
+        self.at
+    }
+
+    // Writes these bytes behind those before.
+    fn push(&mut self, bytes: &[u8])
+        requires { self.old.at + length bytes.now ≤ length self.old.memory.now }
+        ensures same { self.new.memory.ghost_name ≡ self.old.memory.ghost_name }
+        ensures room { length self.new.memory.now ≡ length self.old.memory.now }
+        ensures puts { Puts bytes.now self.old.memory.now self.old.at self.new.memory.now self.new.at }
+    {
+        let end = self.at + bytes.len();
+        self.memory[self.at..end].copy_from_slice(bytes);
+        self.at = end;
+    }
+}
+
+impl<'a> Writer<'a> {
+    // Writes a rule with these names; refuses it at its first node whose test has none: n names have 2n tests, their own and the opposite ones.
+    pub(crate) fn new(names: Names<'a>, rule: &'a Rule) -> Result<Writer<'a>, Fault>
+        ensures { MatchResult result (λ writer. (writer.names ≡ names.entry) × (writer.rule.now ≡ rule.now)) (λ f. (f.refusal ≡ UnknownName) × FirstTest (2 * length names.entry.entries.now) rule.now.nodes.items (Some f.place)) }
+    {
+        match rule.first_test(2 * names.count() as usize) {
+            None => Ok(Writer { names, rule }),
+            Some(place) => Err(Refusal::UnknownName.at(place)),
         }
-        Form::Repeat(child) => {
-            let inner = put(names, rule, Place::Repeated, child, memory, at);
-            put_bytes(memory, inner, b"*")
+    }
+
+    // What is written of a leaf: nothing or `!`, and then a name.
+    fn leaf_parts(self, test: u8) -> (&'static [u8], &'a [u8])
+        ensures text { result.0.now ++ result.1.now ≡ leaf_text self.entry.names.entries.now test }
+        ensures mark { length result.0.now ≤ 1 }
+        ensures name { length result.1.now ≤ 16 }
+    {
+        let count = self.names.count();
+        if test < count {
+            (b"", self.names.name(test))
+        } else {
+            (b"!", self.names.name(test - count))
         }
-        Form::Join(join, left, right) => {
-            let (open, close) = brackets(needs_brackets(place, join));
-            let opened = put_bytes(memory, at, open);
-            let first = put(names, rule, Place::Left(join), left, memory, opened);
-            let parted = put_bytes(memory, first, between(join));
-            let second = put(names, rule, Place::Right(join), right, memory, parted);
-            put_bytes(memory, second, close)
+    }
+
+    // The extent of the text of node p.
+    pub(crate) fn measure(self, place: Place, p: usize) -> Extent
+        requires { p < length self.rule.now.nodes.items }
+        ensures { Measured self.entry.names.entries.now self.entry.rule.now.nodes.items place p result.length result.depth }
+    {
+        match self.rule.form(p) {
+            Form::Void => Extent {
+                length: 4,
+                depth: 0,
+            },
+            Form::Nil => Extent {
+                length: 3,
+                depth: 0,
+            },
+            Form::Leaf(test) => {
+                let (mark, name) = self.leaf_parts(test);
+                Extent {
+                    length: mark.len() + name.len(),
+                    depth: 0,
+                }
+            }
+            Form::Repeat(child) => {
+                let inner = self.measure(Place::Repeated, child);
+                Extent {
+                    length: inner.length + 1,
+                    depth: inner.depth,
+                }
+            }
+            Form::Join(join, left, right) => joined(
+                self.measure(Place::Left(join), left),
+                between(join).len(),
+                self.measure(Place::Right(join), right),
+                needs_brackets(place, join),
+            ),
+        }
+    }
+
+    // Writes the text of node p.
+    pub(crate) fn put(self, place: Place, p: usize, page: &mut Page<'_>)
+        requires within { p < length self.rule.now.nodes.items }
+        requires room { page.old.at + length (text_at self.names.entries.now self.rule.now.nodes.items place p) ≤ length page.old.memory.now }
+        ensures same { page.new.memory.ghost_name ≡ page.old.memory.ghost_name }
+        ensures room { length page.new.memory.now ≡ length page.old.memory.now }
+        ensures puts { Puts (text_at self.entry.names.entries.now self.entry.rule.now.nodes.items place p) page.old.memory.now page.old.at page.new.memory.now page.new.at }
+    {
+        match self.rule.form(p) {
+            Form::Void => page.push(b"void"),
+            Form::Nil => page.push(b"nil"),
+            Form::Leaf(test) => {
+                let (mark, name) = self.leaf_parts(test);
+                page.push(mark);
+                page.push(name);
+            }
+            Form::Repeat(child) => {
+                self.put(Place::Repeated, child, page);
+                page.push(b"*");
+            }
+            Form::Join(join, left, right) => {
+                let (open, close) = brackets(needs_brackets(place, join));
+                page.push(open);
+                self.put(Place::Left(join), left, page);
+                page.push(between(join));
+                self.put(Place::Right(join), right, page);
+                page.push(close);
+            }
         }
     }
 }

@@ -3,6 +3,7 @@
 
 #[cfg(test)]
 mod tests {
+    use refusals::{Fault, Refusal};
     use rule_text::{Entry, read};
     use rule_writing::write;
     use rules::{Record, Rule};
@@ -12,21 +13,18 @@ mod tests {
 
     // The names any, a and b.
     const NAMES: [Entry; 3] = [
-        [97, 110, 121, 0, 0, 0, 0, 0, 0, 0, 0, 0, 0, 0, 0, 0],
-        [97, 0, 0, 0, 0, 0, 0, 0, 0, 0, 0, 0, 0, 0, 0, 0],
-        [98, 0, 0, 0, 0, 0, 0, 0, 0, 0, 0, 0, 0, 0, 0, 0],
+        *b"any\0\0\0\0\0\0\0\0\0\0\0\0\0",
+        *b"a\0\0\0\0\0\0\0\0\0\0\0\0\0\0\0",
+        *b"b\0\0\0\0\0\0\0\0\0\0\0\0\0\0\0",
     ];
 
     // The name any, and one of 16 letters.
-    const LONG_NAMES: [Entry; 2] = [
-        [97, 110, 121, 0, 0, 0, 0, 0, 0, 0, 0, 0, 0, 0, 0, 0],
-        *b"abcdefghijklmnop",
-    ];
+    const LONG_NAMES: [Entry; 2] = [*b"any\0\0\0\0\0\0\0\0\0\0\0\0\0", *b"abcdefghijklmnop"];
 
     // A name list whose second entry is bad.
     const BAD_NAMES: [Entry; 2] = [
-        [97, 110, 121, 0, 0, 0, 0, 0, 0, 0, 0, 0, 0, 0, 0, 0],
-        [97, 110, 121, 0, 0, 0, 0, 0, 0, 0, 0, 0, 0, 0, 0, 0],
+        *b"any\0\0\0\0\0\0\0\0\0\0\0\0\0",
+        *b"any\0\0\0\0\0\0\0\0\0\0\0\0\0",
     ];
 
     // What is in a byte that writing must leave as it was.
@@ -59,24 +57,14 @@ mod tests {
         text: &[u8],
     ) -> Result<(), Fail> {
         let mut memory = vec![in heap; KEPT; text.len() + 1]?;
-        let Ok(len) = write(names, rule, &mut memory) else {
-            return Err(Fail::new("not written"));
-        };
-        assert!(rt; len == text.len());
+        assert_eq!(rt; write(names, rule, &mut memory), Ok(text.len()));
         assert!(rt; memory.starts_with(text) && memory.ends_with(&[KEPT]));
         comes_back(rt, heap, names, rule, text)
     }
 
-    // Whether the rule is refused, by this number at this place, and the memory is as it was.
-    fn refused(names: &[Entry], rule: &Rule, memory: &mut [u8], number: u8, place: usize) -> bool {
-        let Err(fault) = write(names, rule, memory) else {
-            return false;
-        };
-        let mut kept = true;
-        for b in memory.iter() {
-            kept &= *b == KEPT;
-        }
-        kept && fault.refusal.number() == number && fault.place == place
+    // Whether the rule is refused, by this fault, and the memory is as it was.
+    fn refused(names: &[Entry], rule: &Rule, memory: &mut [u8], fault: Fault) -> bool {
+        write(names, rule, memory) == Err(fault) && memory.iter().all(|b| *b == KEPT)
     }
 
     #[test]
@@ -149,7 +137,7 @@ mod tests {
             assert!(rt; rule.take(&nested(heap, 18, code)?).is_ok());
             writes(&rt, heap, &NAMES, &rule, text)?;
             assert!(rt; rule.take(&nested(heap, 19, code)?).is_ok());
-            assert!(rt; refused(&NAMES, &rule, &mut [KEPT; 8], 14, 0));
+            assert!(rt; refused(&NAMES, &rule, &mut [KEPT; 8], Refusal::TooDeep.at(0)));
         }
         Ok(())
     }
@@ -167,10 +155,11 @@ mod tests {
 
     // The rule's nodes, and a repeat over them.
     fn repeated(heap: Global, rule: &Rule) -> Result<Vec<Record>, AllocError> {
-        let mut list = Vec::new(heap);
-        for node in rule.nodes() {
-            list.push(Record::from(*node))?;
-        }
+        let mut list = rule
+            .nodes()
+            .iter()
+            .map(|node| Record::from(*node))
+            .collect::<Vec<_>>(heap)?;
         list.push(Record {
             code: 5,
             test: 0,
@@ -190,8 +179,22 @@ mod tests {
         writes(&rt, heap, &LONG_NAMES, &rule, &text)?;
         let list = repeated(heap, &rule)?;
         assert!(rt; rule.take(&list).is_ok());
-        assert!(rt; refused(&LONG_NAMES, &rule, &mut [KEPT; 8], 17, 0));
-        assert!(rt; refused(&LONG_NAMES, &rule, &mut vec![in heap; KEPT; 5000]?, 17, 0));
+        assert!(rt;
+            refused(
+                &LONG_NAMES,
+                &rule,
+                &mut [KEPT; 8],
+                Refusal::TextTooLong.at(0)
+            )
+        );
+        assert!(rt;
+            refused(
+                &LONG_NAMES,
+                &rule,
+                &mut vec![in heap; KEPT; 5000]?,
+                Refusal::TextTooLong.at(0)
+            )
+        );
         Ok(())
     }
 
@@ -200,15 +203,22 @@ mod tests {
     fn memory(rt: HostRuntime) -> Result<(), Fail> {
         let mut rule = Rule::new(rt.alloc())?;
         reads(&rt, &NAMES, b"a (!b | b)", &mut rule);
-        assert!(rt; refused(&NAMES, &rule, &mut [KEPT; 9], 34, 0));
-        assert!(rt; refused(&NAMES, &rule, &mut [], 34, 0));
+        assert!(rt; refused(&NAMES, &rule, &mut [KEPT; 9], Refusal::MemoryTooShort.at(0)));
+        assert!(rt; refused(&NAMES, &rule, &mut [], Refusal::MemoryTooShort.at(0)));
         let mut memory = [KEPT; 10];
-        assert!(rt; write(&NAMES, &rule, &mut memory).is_ok());
+        assert_eq!(rt; write(&NAMES, &rule, &mut memory), Ok(10));
         assert!(rt; &memory == b"a (!b | b)");
         // with two names, tests 0 to 3 have one
-        assert!(rt; refused(&LONG_NAMES, &rule, &mut [KEPT; 4], 15, 1));
-        assert!(rt; refused(&BAD_NAMES, &rule, &mut [KEPT; 4], 18, 16));
-        assert!(rt; refused(&[], &rule, &mut [KEPT; 4], 18, 0));
+        assert!(rt;
+            refused(
+                &LONG_NAMES,
+                &rule,
+                &mut [KEPT; 4],
+                Refusal::UnknownName.at(1)
+            )
+        );
+        assert!(rt; refused(&BAD_NAMES, &rule, &mut [KEPT; 4], Refusal::BadNames.at(16)));
+        assert!(rt; refused(&[], &rule, &mut [KEPT; 4], Refusal::BadNames.at(0)));
         Ok(())
     }
 
@@ -219,11 +229,18 @@ mod tests {
         let mut rule = Rule::new(heap)?;
         let mut list = nested(heap, 250, 3)?;
         assert!(rt; rule.take(&list).is_ok());
-        assert!(rt; refused(&LONG_NAMES, &rule, &mut [KEPT; 4], 14, 0));
+        assert!(rt; refused(&LONG_NAMES, &rule, &mut [KEPT; 4], Refusal::TooDeep.at(0)));
         assert!(rt; list.len() > 249);
         list[249].test = 4;
         assert!(rt; rule.take(&list).is_ok());
-        assert!(rt; refused(&LONG_NAMES, &rule, &mut [KEPT; 4], 15, 249));
+        assert!(rt;
+            refused(
+                &LONG_NAMES,
+                &rule,
+                &mut [KEPT; 4],
+                Refusal::UnknownName.at(249)
+            )
+        );
         Ok(())
     }
 }

@@ -10,20 +10,19 @@ use Rattle.rule_text.proofs.names.entry_name.Goals.{else-is_test_name-via-then-i
 pub returns-then-is_fill : goal.returns-then-is_fill
 returns-then-is_fill c =
     let e = c.args.filled.now in
-    let own : c.split_at.result.0.now ≡ front e = c.split_at.ensures.front ∙ c.run_len.ensures.run in
-    let zeros = subst AllZero c.split_at.ensures.back (c.is_fill.ensures.0 c.if-is_fill.true) in
+    let own = c.split_run.ensures.run in
+    let zeros = subst AllZero c.split_run.ensures.after (c.is_fill.ensures.0 c.if-is_fill.true) in
     record {
       is_run = ap front own ∙ front_run e ∙ sym own;
       is_test = sym c.is_test_name.ensures ∙ c.if-is_test_name.true;
-      filled = subst (λ (x : List ℕ). is_entry e x ≡ true) (sym c.split_at.ensures.front) (run_fills e c.told-filled c.run_len.result c.run_len.ensures.within zeros);
+      filled = subst (λ (x : List ℕ). is_entry e x ≡ true) (sym own) (run_fills e c.told-filled zeros);
     }
 
 pub returns-else-is_test_name : goal.returns-else-is_test_name
 returns-else-is_test_name c x f =
     let e = c.args.filled.now in
-    let own : c.split_at.result.0.now ≡ x = c.split_at.ensures.front ∙ c.run_len.ensures.run ∙ fills_run e c.told-filled x f in
-    let zeros = fills_zero e c.told-filled x f c.run_len.result c.run_len.ensures.run c.run_len.ensures.within in
+    let own : c.split_run.result.0.now ≡ x = c.split_run.ensures.run ∙ fills_run e c.told-filled x f in
     elim c.else-is_test_name.branch [
-      | else-is_test_name-via-then-is_test_name+else-is_fill w ↦ both_ways w.is_fill.result w.if-is_fill.false (w.is_fill.ensures.1 (subst AllZero (sym c.split_at.ensures.back) zeros))
+      | else-is_test_name-via-then-is_test_name+else-is_fill w ↦ both_ways w.is_fill.result w.if-is_fill.false (w.is_fill.ensures.1 (subst AllZero (sym c.split_run.ensures.after) (fills_zero e c.told-filled x f)))
       | else-is_test_name-via-else-is_test_name w ↦ both_ways c.is_test_name.result w.if-is_test_name.false (c.is_test_name.ensures ∙ ap is_test_name own ∙ f.is_test)
     ]

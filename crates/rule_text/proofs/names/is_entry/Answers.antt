@@ -1,10 +1,10 @@
 -- All bytes are the same, or one differs.
-use Rattle.std.proofs.Common.{sym, ◌∙◌, arith}
-use Rattle.rule_text.proofs.Entries.{entry_from, entry_fails}
+use Rattle.std.proofs.iter.runs.Made.{chains}
+use Rattle.std.proofs.Common.{◌≡◌, ℕ, ◌<◌, length, get_or, Decides, rules}
+use Rattle.rule_text.proofs.Entries.{entry_decided}
 use Rattle.rule_text.proofs.names.is_entry.Goals as goal
 
-pub returns-then-filled-i : goal.returns-then-filled-i
-returns-then-filled-i c = sym (entry_fails c.args.filled.now c.args.name.now c.loop-i.i (omega arith) (λ e. c.if-filled-i.true (e ∙ sym c.byte_at.ensures)))
-
 pub returns : goal.returns
-returns c = sym (entry_from c.args.filled.now c.args.name.now (λ k l. c.loop-i.invariant k (omega arith)))
+returns c =
+    let same : Decides c.all.result ((k : ℕ) → k < length c.args.filled.now → get_or c.args.filled.now k 0 ≡ get_or c.args.name.now k 0) = search (rules, chains) in
+    entry_decided c.args.filled.now c.args.name.now c.all.result c.told-filled same

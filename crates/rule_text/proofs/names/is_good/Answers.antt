@@ -18,12 +18,12 @@ returns-in-Some c =
         first = λ _. (bytes_eq-Decides x (codes "any")).0 (sym c.spells.ensures ∙ r);
         new = λ j h. absurd (omega (arith, c.if-i-eq0.true));
       }),
-      (λ g. c.spells.ensures ∙ (bytes_eq-Decides x (codes "any")).1 (only _ x g.own (c.told-names c.args.i c.requires) fills g.fills ∙ g.first c.if-i-eq0.true)),
+      (λ g. c.spells.ensures ∙ (bytes_eq-Decides x (codes "any")).1 (only _ x g.own (c.told-entries c.args.i c.requires) fills g.fills ∙ g.first c.if-i-eq0.true)),
     )
 
 pub returns-in-Some-2 : goal.returns-in-Some-2
 returns-in-Some-2 c =
-    let names = c.args.names.now in
+    let names = c.args.entries.now in
     let x = c.in-Some.name.now in
     let fills = c.in-Some.ensures in (
       (λ r. record {
@@ -33,6 +33,6 @@ returns-in-Some-2 c =
         new = new_from names x c.args.i (omega (arith, c.requires)) (c.is_new.ensures.0 r);
       }),
       (λ g.
-          let same = only _ g.own x (c.told-names c.args.i c.requires) g.fills fills in
+          let same = only _ g.own x (c.told-entries c.args.i c.requires) g.fills fills in
           c.is_new.ensures.1 (new_none names x c.args.i (omega (arith, c.requires)) (λ j h. subst (λ (y : List ℕ). is_entry (get_or names j []) y ≡ false) same (g.new j h)))),
     )

@@ -1,6 +1,0 @@
--- The bytes so far are 0.
-use Rattle.std.proofs.Common.{◌≡◌, ℕ, ◌<◌, get_or}
-use Rattle.rule_text.proofs.names.is_fill.Given as goal
-
-abbrev pub invariant-loop-b : goal.invariant-loop-b
-invariant-loop-b l = (k : ℕ) → k < l.b-index → get_or l.bytes k 0 ≡ 0
