@@ -11,6 +11,7 @@ use symbols::Kind;
 
 // The tables of a rule under a kind: next and far of each node. The room is reserved when they are made.
 // They are apart, since each is filled in an order of its own and read whole by the next one, and far has an entry more.
+// How long they are goes by the rule that they were last filled for, so it is no invariant of theirs.
 #[derive(Drop)]
 pub struct Tables {
     next: Vec<u16>,
@@ -60,7 +61,7 @@ impl Tables {
         fill_far(&mut self.far, rule, &self.next, &self.short);
     }
 
-    // Next of each node; the node count stands for the end.
+    // Next of each node; the node count stands for the end, and is no `None`, since far has an entry there and the listing shows it.
     pub fn next(&self) -> &[u16]
         ensures { result.now ≡ self.now.next.items }
     {

@@ -87,12 +87,14 @@ impl Refusal {
         }
     }
 
+    // The number that tells it. A method and no `u8::from`, which would not say what the number is.
     pub fn number(self) -> u8
         ensures { result ≡ number_of self }
     {
         self as u8
     }
 
+    // The layer that it comes from.
     pub fn layer(self) -> Layer
         ensures { result ≡ layer_of self }
     {

@@ -1,4 +1,5 @@
 // The reader: the grammar's four levels, each a method that adds what it reads to a draft.
+// They stay four that call each other through brackets: a rule of the project.
 ghost use Rattle.std.specs.Prelude.{◌≡◌, ◌+◌, ◌<◌, ◌≤◌, length, MatchResult};
 ghost use Rattle.refusals.specs.declared.Refusal.TheVariants.{TooDeep};
 ghost use Rattle.rule_text.specs.Faults.{fault};

@@ -3,7 +3,7 @@
 
 #[cfg(test)]
 mod tests {
-    use refusals::{Fault, Refusal};
+    use refusals::Fault;
     use rule_text::{Entry, Names, read};
     use rules::{Node, Rule, Shape};
     use std::alloc::{AllocError, Global};
@@ -17,9 +17,18 @@ mod tests {
         filled
     }
 
+    // The number and the place of a refusal.
+    fn told(fault: Fault) -> (u8, usize) {
+        (fault.refusal.number(), fault.place)
+    }
+
     // What reading the text into a fresh rule answers.
-    fn answer(heap: Global, names: &[Entry], text: &[u8]) -> Result<Result<(), Fault>, AllocError> {
-        Ok(read(names, text, &mut Rule::new(heap)?))
+    fn answer(
+        heap: Global,
+        names: &[Entry],
+        text: &[u8],
+    ) -> Result<Result<(), (u8, usize)>, AllocError> {
+        Ok(read(names, text, &mut Rule::new(heap)?).map_err(told))
     }
 
     // A list of so many names: any, and then names of three letters.
@@ -58,10 +67,7 @@ mod tests {
         for (name, good) in table {
             let names = [entry(b"any"), entry(b"a"), entry(name), entry(b"nil")];
             let place = if good { 48 } else { 32 };
-            assert_eq!(rt;
-                answer(heap, &names, b"a")?,
-                Err(Refusal::BadNames.at(place))
-            );
+            assert_eq!(rt; answer(heap, &names, b"a")?, Err((18, place)));
         }
         Ok(())
     }
@@ -69,22 +75,22 @@ mod tests {
     #[test]
     fn lists(rt: HostRuntime) -> Result<(), Fail> {
         let heap = rt.alloc();
-        assert_eq!(rt; answer(heap, &[], b"any")?, Err(Refusal::BadNames.at(0)));
+        assert_eq!(rt; answer(heap, &[], b"any")?, Err((18, 0)));
         assert_eq!(rt;
             answer(heap, &[entry(b"a"), entry(b"any")], b"a")?,
-            Err(Refusal::BadNames.at(0))
+            Err((18, 0))
         );
         assert_eq!(rt; answer(heap, &[entry(b"any")], b"any")?, Ok(()));
         assert_eq!(rt; answer(heap, &many_names(heap, 128)?, b"any xaf")?, Ok(()));
         assert_eq!(rt;
             answer(heap, &many_names(heap, 129)?, b"any")?,
-            Err(Refusal::BadNames.at(0))
+            Err((18, 0))
         );
         Ok(())
     }
 
     #[test]
-    fn told(rt: HostRuntime) -> Result<(), Fail> {
+    fn names_of_a_list(rt: HostRuntime) -> Result<(), Fail> {
         let entries = [entry(b"any"), entry(b"abcdefghijklmnop")];
         let Ok(names) = Names::new(&entries) else {
             return Err(Fail::new("refused"));
@@ -102,20 +108,11 @@ mod tests {
         let long = vec![in heap; b'9'; 4097]?;
         let good = [entry(b"any"), entry(b"a")];
         let bad = [entry(b"any"), entry(b"any")];
-        assert_eq!(rt; answer(heap, &bad, &long)?, Err(Refusal::BadNames.at(16)));
-        assert_eq!(rt; answer(heap, &bad, b"9")?, Err(Refusal::BadNames.at(16)));
-        assert_eq!(rt;
-            answer(heap, &good, &long)?,
-            Err(Refusal::TextTooLong.at(4096))
-        );
-        assert_eq!(rt;
-            answer(heap, &good, b"b 9")?,
-            Err(Refusal::UnknownName.at(0))
-        );
-        assert_eq!(rt;
-            answer(heap, &good, b"a 9 b")?,
-            Err(Refusal::NotAName.at(2))
-        );
+        assert_eq!(rt; answer(heap, &bad, &long)?, Err((18, 16)));
+        assert_eq!(rt; answer(heap, &bad, b"9")?, Err((18, 16)));
+        assert_eq!(rt; answer(heap, &good, &long)?, Err((17, 4096)));
+        assert_eq!(rt; answer(heap, &good, b"b 9")?, Err((15, 0)));
+        assert_eq!(rt; answer(heap, &good, b"a 9 b")?, Err((12, 2)));
         Ok(())
     }
 

@@ -17,6 +17,7 @@ pub(crate) struct Extent {
 }
 
 // Writes the nodes of a rule, each test of which has a name.
+// That p is one of them is asked of two methods: a type of such numbers would only borrow the rule once more.
 #[derive(Clone, Copy)]
 pub(crate) struct Writer<'a> {
     names: Names<'a>,

@@ -3,7 +3,7 @@
 
 #[cfg(test)]
 mod tests {
-    use refusals::{Fault, Refusal};
+    use refusals::Fault;
     use rule_text::{Entry, read};
     use rule_writing::write;
     use rules::{Record, Rule};
@@ -62,9 +62,15 @@ mod tests {
         comes_back(rt, heap, names, rule, text)
     }
 
-    // Whether the rule is refused, by this fault, and the memory is as it was.
-    fn refused(names: &[Entry], rule: &Rule, memory: &mut [u8], fault: Fault) -> bool {
-        write(names, rule, memory) == Err(fault) && memory.iter().all(|b| *b == KEPT)
+    // The number and the place of a refusal.
+    fn told(fault: Fault) -> (u8, usize) {
+        (fault.refusal.number(), fault.place)
+    }
+
+    // Whether the rule is refused, by this number at this place, and the memory is as it was.
+    fn refused(names: &[Entry], rule: &Rule, memory: &mut [u8], number: u8, place: usize) -> bool {
+        write(names, rule, memory).map_err(told) == Err((number, place))
+            && memory.iter().all(|b| *b == KEPT)
     }
 
     #[test]
@@ -137,7 +143,7 @@ mod tests {
             assert!(rt; rule.take(&nested(heap, 18, code)?).is_ok());
             writes(&rt, heap, &NAMES, &rule, text)?;
             assert!(rt; rule.take(&nested(heap, 19, code)?).is_ok());
-            assert!(rt; refused(&NAMES, &rule, &mut [KEPT; 8], Refusal::TooDeep.at(0)));
+            assert!(rt; refused(&NAMES, &rule, &mut [KEPT; 8], 14, 0));
         }
         Ok(())
     }
@@ -179,22 +185,8 @@ mod tests {
         writes(&rt, heap, &LONG_NAMES, &rule, &text)?;
         let list = repeated(heap, &rule)?;
         assert!(rt; rule.take(&list).is_ok());
-        assert!(rt;
-            refused(
-                &LONG_NAMES,
-                &rule,
-                &mut [KEPT; 8],
-                Refusal::TextTooLong.at(0)
-            )
-        );
-        assert!(rt;
-            refused(
-                &LONG_NAMES,
-                &rule,
-                &mut vec![in heap; KEPT; 5000]?,
-                Refusal::TextTooLong.at(0)
-            )
-        );
+        assert!(rt; refused(&LONG_NAMES, &rule, &mut [KEPT; 8], 17, 0));
+        assert!(rt; refused(&LONG_NAMES, &rule, &mut vec![in heap; KEPT; 5000]?, 17, 0));
         Ok(())
     }
 
@@ -203,22 +195,15 @@ mod tests {
     fn memory(rt: HostRuntime) -> Result<(), Fail> {
         let mut rule = Rule::new(rt.alloc())?;
         reads(&rt, &NAMES, b"a (!b | b)", &mut rule);
-        assert!(rt; refused(&NAMES, &rule, &mut [KEPT; 9], Refusal::MemoryTooShort.at(0)));
-        assert!(rt; refused(&NAMES, &rule, &mut [], Refusal::MemoryTooShort.at(0)));
+        assert!(rt; refused(&NAMES, &rule, &mut [KEPT; 9], 34, 0));
+        assert!(rt; refused(&NAMES, &rule, &mut [], 34, 0));
         let mut memory = [KEPT; 10];
         assert_eq!(rt; write(&NAMES, &rule, &mut memory), Ok(10));
         assert!(rt; &memory == b"a (!b | b)");
         // with two names, tests 0 to 3 have one
-        assert!(rt;
-            refused(
-                &LONG_NAMES,
-                &rule,
-                &mut [KEPT; 4],
-                Refusal::UnknownName.at(1)
-            )
-        );
-        assert!(rt; refused(&BAD_NAMES, &rule, &mut [KEPT; 4], Refusal::BadNames.at(16)));
-        assert!(rt; refused(&[], &rule, &mut [KEPT; 4], Refusal::BadNames.at(0)));
+        assert!(rt; refused(&LONG_NAMES, &rule, &mut [KEPT; 4], 15, 1));
+        assert!(rt; refused(&BAD_NAMES, &rule, &mut [KEPT; 4], 18, 16));
+        assert!(rt; refused(&[], &rule, &mut [KEPT; 4], 18, 0));
         Ok(())
     }
 
@@ -229,18 +214,11 @@ mod tests {
         let mut rule = Rule::new(heap)?;
         let mut list = nested(heap, 250, 3)?;
         assert!(rt; rule.take(&list).is_ok());
-        assert!(rt; refused(&LONG_NAMES, &rule, &mut [KEPT; 4], Refusal::TooDeep.at(0)));
+        assert!(rt; refused(&LONG_NAMES, &rule, &mut [KEPT; 4], 14, 0));
         assert!(rt; list.len() > 249);
         list[249].test = 4;
         assert!(rt; rule.take(&list).is_ok());
-        assert!(rt;
-            refused(
-                &LONG_NAMES,
-                &rule,
-                &mut [KEPT; 4],
-                Refusal::UnknownName.at(249)
-            )
-        );
+        assert!(rt; refused(&LONG_NAMES, &rule, &mut [KEPT; 4], 15, 249));
         Ok(())
     }
 }

@@ -81,7 +81,11 @@ TestsFit ns = (i : ℕ) → i < length ns → test_of (shape_at ns i) ≤ 255
 
 -- whether a node of this shape has a test at or above a bound
 abbrev pub test_from : ℕ → Shape → Bool
-test_from bound x = elim (leaf_test x) [ None ↦ false | Some t ↦ nat_le bound t ]
+test_from bound Void = false
+test_from bound Nil = false
+test_from bound (Leaf t) = nat_le bound t
+test_from bound (Join o) = false
+test_from bound Repeat = false
 
 -- the first node whose test is at or above a bound, if any
 abbrev pub FirstTest : ℕ → List Node → Option ℕ → Type 0

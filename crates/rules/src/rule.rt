@@ -27,6 +27,7 @@ pub struct Draft {
 }
 
 // A rule's list of nodes is well formed, and its room is its own.
+// A list by number and no tree of boxes: a rule of the project, fixed memory, and a node's number is shown.
 #[derive(Drop)]
 pub struct Rule {
     nodes: Vec<Node>,

@@ -3,7 +3,7 @@
 
 #[cfg(test)]
 mod tests {
-    use refusals::Refusal;
+    use refusals::Fault;
     use rules::{Record, Rule};
     use std::alloc::Global;
     use std::process::Abort;
@@ -65,7 +65,8 @@ mod tests {
 
     // Whether the rule refuses the records at this place, by the refusal of node lists, and leaves nothing in its draft.
     fn refused(rule: &mut Rule, records: &[Record], place: usize) -> bool {
-        rule.take(records) == Err(Refusal::BadNodes.at(place)) && rule.adopt().is_err()
+        let told = |fault: Fault| (fault.refusal.number(), fault.place);
+        rule.take(records).map_err(told) == Err((19, place)) && rule.adopt().is_err()
     }
 
     // Lists of one record: each shape, and numbers that no node has.
