@@ -113,14 +113,12 @@ mod tests {
 
     // Choices nested to the right: leaves, and then as many choices as join them.
     fn nested(heap: Global, leaves: u32, code: u32) -> Result<Vec<Record>, AllocError> {
-        let mut list = Vec::new(heap);
-        for _ in 0..leaves {
-            list.push(Record {
-                code: 2,
-                test: 1,
-                size: 1,
-            })?;
-        }
+        let leaf = Record {
+            code: 2,
+            test: 1,
+            size: 1,
+        };
+        let mut list = vec![in heap; leaf; leaves as usize]?;
         for i in 1..leaves {
             list.push(Record {
                 code,
