@@ -8,6 +8,7 @@ use rules::{Form, Join, Rule};
 use symbols::Kind;
 
 // The sum, none if either is none.
+// How low a number is goes by what it is a number of, a node or all from a node on, so that is asked and no type says it.
 fn add(a: Option<u32>, b: Option<u32>) -> Option<u32>
     requires a_low { AtMost (2 ^ 20) a }
     requires b_low { AtMost (2 ^ 20) b }
@@ -27,6 +28,7 @@ fn least(a: Option<u32>, b: Option<u32>) -> Option<u32>
 }
 
 // Short of p, from short of the nodes before it.
+// p is one of the rule's nodes: asked here and of `hand_down`, since a type of such numbers would only carry the rule along.
 fn short_at<K: Kind>(short: &[Option<u32>], rule: &Rule, kind: &K, p: usize) -> Option<u32>
     requires within { p < length rule.now.nodes.items }
     requires before { length short.now ≡ p }

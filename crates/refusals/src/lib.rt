@@ -70,6 +70,7 @@ pub enum Refusal {
 }
 
 // A refusal and its place: a byte of a text, a node of a list or a count, as docs/REFUSALS.md says, and else 0.
+// 0 and no `None`: a rule of the project, each refusal tells a place.
 #[derive(Clone, Copy, Debug, PartialEq, Eq)]
 pub struct Fault {
     pub refusal: Refusal,
@@ -87,7 +88,7 @@ impl Refusal {
         }
     }
 
-    // The number that tells it. A method and no `u8::from`, which would not say what the number is.
+    // The number that tells it. A method and no `u8::from`: at a call, `number` says which number it is.
     pub fn number(self) -> u8
         ensures { result ≡ number_of self }
     {

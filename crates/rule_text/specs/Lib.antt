@@ -5,3 +5,4 @@ pub mod Faults
 pub mod Reading
 pub mod Lexing
 pub mod Readers
+pub mod Calls

@@ -54,7 +54,7 @@ fn read_drafting(names: &[Entry], text: &[u8], rule: &mut Rule) -> Result<(), Fa
     let rest = Reader::new(names).choice(Rest::new(text), &mut rule.draft)?;
     let last = rest.next_word()?;
     check_end(last, &rule.draft)?;
-    // The draft is a whole rule, and none of it was left out, so it is adopted.
+    // The draft is a whole rule, and none of it was left out, so adopting it refuses nothing.
     rule.adopt()
 }
 

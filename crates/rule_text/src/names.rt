@@ -1,5 +1,5 @@
 // Name lists: which names stand for which tests.
-ghost use Rattle.std.specs.Prelude.{◌≡◌, ◌<◌, ◌≤◌, [], length, None, Decides, MatchResult, slice_index, slice_index_or};
+ghost use Rattle.std.specs.Prelude.{◌≡◌, ◌<◌, ◌≤◌, [], length, None, Decides, IfSome, MatchOption, MatchResult, slice_index, slice_index_or};
 ghost use Rattle.refusals.specs.declared.Refusal.TheVariants.{BadNames};
 ghost use Rattle.rule_text.specs.Words.{front};
 ghost use Rattle.rule_text.specs.Names.{is_entry, test_named, AllZero, EntryName, FirstBad, GoodEntry, GoodNames, NamesFault};
@@ -17,6 +17,7 @@ pub type Entry = [u8; 16];
 #[derive(Clone, Copy)]
 pub struct Names<'a> {
     entries: &'a [Entry],
+    // that it keeps the rules, whatever shows it
     ghost good: { ∥ GoodNames entries.now ∥₁ },
 }
 
@@ -124,15 +125,12 @@ impl<'a> Names<'a> {
         self.entries.len() as u8
     }
 
-    // The name of a test, without its fill; no byte where the list has no such test.
-    pub fn name(self, test: u8) -> &'a [u8]
-        ensures name { result.now ≡ front (slice_index_or self.entry.entries.now test []) }
-        ensures few { length result.now ≤ 16 }
+    // The name of a test, without its fill; none where the list has no such test.
+    pub fn name(self, test: u8) -> Option<&'a [u8]>
+        ensures name { MatchOption result (length self.entry.entries.now ≤ test) (λ name. (test < length self.entry.entries.now) × (name.now ≡ front (slice_index_or self.entry.entries.now test []))) }
+        ensures few { IfSome result (λ name. length name.now ≤ 16) }
     {
-        match self.entries.get(test as usize) {
-            Some(filled) => unfilled(filled),
-            None => b"",
-        }
+        Some(unfilled(self.entries.get(test as usize)?))
     }
 
     // The test that a name stands for.

@@ -4,7 +4,7 @@ ghost use Rattle.std.specs.Prelude.{◌≡◌, ◌+◌, ◌<◌, ◌≤◌, leng
 ghost use Rattle.refusals.specs.declared.Refusal.TheVariants.{TooDeep};
 ghost use Rattle.rule_text.specs.Faults.{fault};
 ghost use Rattle.rule_text.specs.Grammar.{choice as choice_level, chain as chain_level, item as item_level, atom as atom_level};
-ghost use Rattle.rule_text.specs.Readers.{TestOf, NameIn, Opposite, Outcome, Joins, operand};
+ghost use Rattle.rule_text.specs.Readers.{TestOf, NameIn};
 
 use crate::names::Names;
 use crate::rest::{Placed, Rest};
@@ -34,6 +34,8 @@ fn name_in<'a>(next: Placed<'a>) -> Result<&'a [u8], Fault>
 }
 
 impl<'a> Reader<'a> {
+    ghost use Rattle.rule_text.specs.Calls.{ReadsPart, ReadsFurther, ReadsOpposite};
+
     // Reads what stands in no brackets.
     pub(crate) fn new(names: Names<'a>) -> Reader<'a>
         ensures names { result.names ≡ names.entry }
@@ -64,7 +66,7 @@ impl<'a> Reader<'a> {
 
     // The name after `!`: a leaf with the opposite of its test.
     fn opposite(self, text: Rest<'a>, draft: &mut Draft) -> Result<Rest<'a>, Fault>
-        ensures { Opposite self.entry.names.entries.now text.entry.whole text.entry.bytes.now draft.old.nodes.items draft.old.over draft.new.nodes.items draft.new.over result }
+        ensures { ReadsOpposite self.entry text.entry draft.old draft.new result }
     {
         let next = text.next_word()?;
         let name = name_in(next)?;
@@ -76,7 +78,7 @@ impl<'a> Reader<'a> {
     // A choice: one chain, then any number of `|` and a chain.
     #[cycle(readers)]
     pub(crate) fn choice(self, text: Rest<'a>, draft: &mut Draft) -> Result<Rest<'a>, Fault>
-        ensures { Outcome self.entry.names.entries.now choice_level text.entry.whole text.entry.bytes.now self.entry.depth draft.old.nodes.items draft.old.over draft.new.nodes.items draft.new.over result }
+        ensures { ReadsPart self.entry choice_level text.entry draft.old draft.new result }
     {
         let mut rest = self.chain(text, draft)?;
         loop {
@@ -91,7 +93,7 @@ impl<'a> Reader<'a> {
     // A chain: one or more items.
     #[cycle(readers)]
     fn chain(self, text: Rest<'a>, draft: &mut Draft) -> Result<Rest<'a>, Fault>
-        ensures { Outcome self.entry.names.entries.now chain_level text.entry.whole text.entry.bytes.now self.entry.depth draft.old.nodes.items draft.old.over draft.new.nodes.items draft.new.over result }
+        ensures { ReadsPart self.entry chain_level text.entry draft.old draft.new result }
     {
         let mut rest = self.item(text, draft)?;
         loop {
@@ -105,9 +107,10 @@ impl<'a> Reader<'a> {
     }
 
     // What a chain or a choice goes on with, an item or a chain, and the join of what was read before and of it.
+    // By the join and no closure: the readers are one cycle.
     #[cycle(readers)]
     fn further(self, join: Join, text: Rest<'a>, draft: &mut Draft) -> Result<Rest<'a>, Fault>
-        ensures { Joins self.entry.names.entries.now (operand join) join text.entry.whole text.entry.bytes.now self.entry.depth draft.old.nodes.items draft.old.over draft.new.nodes.items draft.new.over result }
+        ensures { ReadsFurther self.entry join text.entry draft.old draft.new result }
     {
         let rest = match join {
             Join::Chain => self.item(text, draft)?,
@@ -120,7 +123,7 @@ impl<'a> Reader<'a> {
     // An item: an atom, then any number of `*`.
     #[cycle(readers)]
     fn item(self, text: Rest<'a>, draft: &mut Draft) -> Result<Rest<'a>, Fault>
-        ensures { Outcome self.entry.names.entries.now item_level text.entry.whole text.entry.bytes.now self.entry.depth draft.old.nodes.items draft.old.over draft.new.nodes.items draft.new.over result }
+        ensures { ReadsPart self.entry item_level text.entry draft.old draft.new result }
     {
         let mut rest = self.atom(text, draft)?;
         loop {
@@ -136,7 +139,7 @@ impl<'a> Reader<'a> {
     // An atom: a name, `!` and a name, `nil`, `void`, or a choice in brackets.
     #[cycle(readers)]
     fn atom(self, text: Rest<'a>, draft: &mut Draft) -> Result<Rest<'a>, Fault>
-        ensures { Outcome self.entry.names.entries.now atom_level text.entry.whole text.entry.bytes.now self.entry.depth draft.old.nodes.items draft.old.over draft.new.nodes.items draft.new.over result }
+        ensures { ReadsPart self.entry atom_level text.entry draft.old draft.new result }
     {
         let next = text.next_word()?;
         match next.word {

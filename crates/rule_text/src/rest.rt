@@ -4,7 +4,7 @@ ghost use Rattle.std.specs.Prelude.{◌≡◌, ◌-◌, ◌<◌, ◌≤◌, fals
 use crate::words::{Word, is_blank, run_word, split_run};
 use refusals::{Fault, Refusal};
 
-// The last bytes of a text that has `whole` of them.
+// The last bytes of a text that has `whole` of them. It keeps that, so that it tells its own place.
 #[derive(Clone, Copy)]
 pub(crate) struct Rest<'a> {
     pub bytes: &'a [u8],

@@ -96,9 +96,9 @@ mod tests {
             return Err(Fail::new("refused"));
         };
         assert_eq!(rt; names.count(), 2);
-        assert_eq!(rt; names.name(0), b"any".as_slice());
-        assert_eq!(rt; names.name(1), b"abcdefghijklmnop".as_slice());
-        assert!(rt; names.name(2).is_empty());
+        assert_eq!(rt; names.name(0), Some(b"any".as_slice()));
+        assert_eq!(rt; names.name(1), Some(b"abcdefghijklmnop".as_slice()));
+        assert_eq!(rt; names.name(2), None);
         Ok(())
     }
 

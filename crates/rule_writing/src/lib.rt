@@ -40,5 +40,5 @@ pub fn write(names: &[Entry], rule: &Rule, memory: &mut [u8]) -> Result<usize, F
     check_extent(extent, memory.len())?;
     let mut page = Page::new(memory);
     writer.put(Place::Whole, root, &mut page);
-    Ok(page.len())
+    Ok(page.written())
 }

@@ -73,7 +73,7 @@ impl<'m> Page<'m> {
     }
 
     // How many bytes are written.
-    pub(crate) fn len(&self) -> usize
+    pub(crate) fn written(&self) -> usize
         ensures { result ≡ self.now.at }
     {
         self.at
@@ -110,10 +110,9 @@ impl<'a> Writer<'a> {
         ensures name { length result.1.now ≤ 16 }
     {
         let count = self.names.count();
-        if test < count {
-            (b"", self.names.name(test))
-        } else {
-            (b"!", self.names.name(test - count))
+        match self.names.name(test) {
+            Some(name) => (b"", name),
+            None => (b"!", self.names.name(test - count).unwrap_or(b"")),
         }
     }
 
@@ -154,7 +153,7 @@ impl<'a> Writer<'a> {
         }
     }
 
-    // Writes the text of node p.
+    // Writes the text of node p. It goes along the nodes as measuring did: nothing is written before all is known to fit.
     pub(crate) fn put(self, place: Place, p: usize, page: &mut Page<'_>)
         requires within { p < length self.rule.now.nodes.items }
         requires room { page.old.at + length (text_at self.names.entries.now self.rule.now.nodes.items place p) ≤ length page.old.memory.now }

@@ -1,6 +1,6 @@
 // The listing of a rule's text: a line for each node, or the line of its fault.
 ghost use Rattle.std.specs.Prelude.{◌≡◌, ◌+◌, [], ◌∷◌, ◌++◌, length, IfOk, Some, string_bytes};
-ghost use Rattle.rulelist.specs.Listing.{letter_tests, field, row, listing as listing_of, fault_line, Lists, Prints};
+ghost use Rattle.rulelist.specs.Listing.{letter_tests, field, row, listing as listing_of, fault_line as fault_line_of, Lists, Prints};
 
 use lockstep::Tables;
 use refusals::Fault;
@@ -34,14 +34,14 @@ impl fmt::Display for Field {
 
 // The line of a node.
 #[derive(Clone, Copy)]
-struct Row {
+struct Line {
     number: usize,
     node: Node,
     next: u16,
     far: Option<u32>,
 }
 
-impl fmt::Display for Row {
+impl fmt::Display for Line {
     ghost output = { λ x. Some (row x.number x.node x.next x.far) };
 
     fn fmt<W: fmt::Write>(&self, f: &mut fmt::Formatter<W>) -> fmt::Result {
@@ -56,8 +56,8 @@ impl fmt::Display for Row {
 }
 
 // The line of a fault.
-fn fault_text(heap: Global, fault: Fault) -> Result<String, AllocError>
-    ensures { IfOk result (λ s. string_bytes s ≡ fault_line fault) }
+fn fault_line(heap: Global, fault: Fault) -> Result<String, AllocError>
+    ensures { IfOk result (λ s. string_bytes s ≡ fault_line_of fault) }
 {
     format!(in heap; "fault {fault}\n")
 }
@@ -74,15 +74,15 @@ fn table_text(
     ensures { IfOk result (λ s. string_bytes s ≡ listing_of nodes.now next.now far.now) }
 {
     let mut text = String::from_str(heap, "node kind test size next far\n")?;
-    // the line shows the node's number, and one list beside it reads better than two zips
+    // by number, which the line shows: two zips, for next and far, would read worse
     for (number, node) in nodes.iter().enumerate() {
-        let row = Row {
+        let line = Line {
             number,
             node: *node,
             next: next[number],
             far: far[number],
         };
-        write!(text, "{row}")?;
+        write!(text, "{line}")?;
     }
     Ok(text)
 }
@@ -124,6 +124,6 @@ pub fn listing(heap: Global, text: &[u8]) -> Result<String, AllocError>
     let mut rule = Rule::new(heap)?;
     match read(&NAMES, text, &mut rule) {
         Ok(()) => list_rule(heap, &rule),
-        Err(fault) => fault_text(heap, fault),
+        Err(fault) => fault_line(heap, fault),
     }
 }

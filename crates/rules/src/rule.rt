@@ -15,7 +15,7 @@ use std::mem;
 pub const MAX_NODES: usize = 512;
 
 // A list of nodes that is being built, each over the last ones; past the limit it only notes that there were more.
-// The flag stands beside the nodes, since their room must be kept when there are too many: only makers allocate.
+// A flag and no refusal at once: a text is read to its end before too many nodes are judged.
 #[derive(Drop)]
 pub struct Draft {
     nodes: Vec<Node>,
@@ -81,21 +81,16 @@ impl Draft {
     {
         let shape = given.shape()?;
         let size = self.size_for(shape)?;
-        if given.size == u32::from(size) {
-            Some(Node { shape, size })
-        } else {
-            None
-        }
+        (given.size == u32::from(size)).then_some(Node { shape, size })
     }
 
     // Whether the last node is the root of all.
     fn is_rooted(&self) -> bool
         ensures { Decides result (Rooted self.now.nodes.items) }
     {
-        match self.nodes.as_slice() {
-            [] => false,
-            [.., root] => root.size as usize == self.nodes.len(),
-        }
+        self.nodes
+            .last()
+            .is_some_and(|root| root.size as usize == self.nodes.len())
     }
 
     // No node, with room for all.
@@ -184,7 +179,7 @@ impl Rule {
         self.nodes.as_slice()
     }
 
-    // What node i is, with the numbers of its children; past the list it is void.
+    // What node i is, with the numbers of its children; past the list it is void, so that each number has a form.
     pub fn form(&self, i: usize) -> Form
         ensures { result ≡ form_at self.now.nodes.items i }
     {

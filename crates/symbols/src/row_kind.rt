@@ -17,7 +17,8 @@ use refusals::Refusal;
 pub struct RowTest {
     pub lowest: u16,
     pub highest: u16,
-    // two sets of 32 bytes and no list of hooks with a wanted bit: a rule of the project, fixed memory in the form that callers give
+    // two sets of 32 bytes and no list of hooks with a wanted bit: a rule of the project, fixed memory in the form that callers give;
+    // nor a struct of their own, since a load reads bytes of any length by the same functions
     pub named: [u8; 32],
     pub wanted: [u8; 32],
 }
@@ -114,7 +115,7 @@ impl SymbolTest for RowTest {
         none_from(&self.wanted, self.highest as usize)
     }
 
-    // The test has widths 0 to 256 and names no hook.
+    // The test has widths 0 to 256 and names no hook. By parts and no `==`: the wanted bits need not be looked at.
     fn is_every(&self) -> bool {
         self.lowest == 0 && self.highest as usize == MAX_WIDTH && none_from(&self.named, 0)
     }

@@ -73,7 +73,7 @@ impl<K: Kind> Turned<K> {
 }
 
 // The tests of the kind beneath, and after them their opposites.
-// Each call matches the place itself: one helper would take what holds at each as a closure, and the arms would lose their names.
+// Each call matches the place itself, here and for showing: a helper would take three closures, and what each is for could no longer be read at its arm.
 impl<K: Kind> Kind for Turned<K> {
     type Symbol = K::Symbol;
 

@@ -58,4 +58,4 @@ returns c =
     let named = rw (w.0, w.1, n.1) at c.in_ok-writer.writer.named in
     let m = rw (w.0, w.1, n.1) at c.measure-extent.ensures in
     let u = rw (w.0, w.1, n.1, c.new-page.ensures.memory, c.new-page.ensures.front) at c.put.ensures.puts in
-    writing _ (left c.args.names.now (vec_items c.args.rule.now.nodes) c.args.memory.now (search rules) c.len.ensures (whole_written c.args.names.now (vec_items c.args.rule.now.nodes) c.args.rule.now.formed n.0 (λ t h. c.told-names t h) named (length c.nodes.result.now - 1) _ _ (ap (λ (ns : List Node). length ns - 1) c.nodes.ensures) m c.in_ok-check_extent.ensures u))
+    writing _ (left c.args.names.now (vec_items c.args.rule.now.nodes) c.args.memory.now (search rules) c.written.ensures (whole_written c.args.names.now (vec_items c.args.rule.now.nodes) c.args.rule.now.formed n.0 (λ t h. c.told-names t h) named (length c.nodes.result.now - 1) _ _ (ap (λ (ns : List Node). length ns - 1) c.nodes.ensures) m c.in_ok-check_extent.ensures u))

@@ -8,4 +8,4 @@ pub returns-in-Ok : goal.returns-in-Ok
 returns-in-Ok c = made_so _ _ c.list_rule.result (λ s l. listed (vec_items c.read.new.rule.nodes) c.in-Ok.ensures.reading.reads l) c.list_rule.ensures
 
 pub returns : goal.returns
-returns c = made_so _ _ c.fault_text.result (λ s e. faulty c.in-Err.fault c.in-Err.ensures.reading.reads.1 e) c.fault_text.ensures
+returns c = made_so _ _ c.fault_line.result (λ s e. faulty c.in-Err.fault c.in-Err.ensures.reading.reads.1 e) c.fault_line.ensures
