@@ -67,7 +67,7 @@ mod tests {
         (fault.refusal.number(), fault.place)
     }
 
-    // Whether the rule is refused, by this number at this place, and the memory is as it was.
+    // Whether the rule is refused, by this number at this place, and the memory is as it was. A condition that a test asserts, so a bool.
     fn refused(names: &[Entry], rule: &Rule, memory: &mut [u8], number: u8, place: usize) -> bool {
         write(names, rule, memory).map_err(told) == Err((number, place))
             && memory.iter().all(|b| *b == KEPT)

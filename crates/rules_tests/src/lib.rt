@@ -58,7 +58,7 @@ mod tests {
                 .all(|(node, record)| Record::from(*node) == *record)
     }
 
-    // Whether the rule takes the records, and then holds their nodes.
+    // Whether the rule takes the records, and then holds their nodes. Here and below a condition that a test asserts, so a bool.
     fn taken(rule: &mut Rule, records: &[Record]) -> bool {
         rule.take(records).is_ok() && holds(rule, records)
     }

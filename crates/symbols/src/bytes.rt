@@ -9,12 +9,6 @@ use crate::symbol_test::SymbolTest;
 use crate::test_list::TestList;
 use refusals::Refusal;
 
-// The test that every byte meets.
-const EVERY_BYTE: ByteTest = ByteTest {
-    lowest: 0,
-    highest: 255,
-};
-
 // The bytes from the lowest to the highest, both included.
 #[derive(Clone, Copy, Debug, PartialEq, Eq)]
 pub struct ByteTest {
@@ -37,11 +31,20 @@ impl SymbolTest for ByteTest {
 
     ghost all_meet = { is_every };
 
-    ghost every = { every_byte };
+    ghost EVERY = { every_byte };
 
-    ghost refusal = { BytesReversed };
+    const EVERY: ByteTest = ByteTest {
+        lowest: 0,
+        highest: 255,
+    };
 
-    ghost some_symbol = { 0 };
+    ghost REFUSAL = { BytesReversed };
+
+    const REFUSAL: Refusal = Refusal::BytesReversed;
+
+    ghost SOME_SYMBOL = { 0 };
+
+    const SOME_SYMBOL: u8 = 0;
 
     ghost every_sound = { refl };
 
@@ -50,18 +53,6 @@ impl SymbolTest for ByteTest {
     ghost meetable = { byte_meetable };
 
     ghost failable = { byte_failable };
-
-    fn every() -> ByteTest {
-        EVERY_BYTE
-    }
-
-    fn refusal() -> Refusal {
-        Refusal::BytesReversed
-    }
-
-    fn some_symbol() -> u8 {
-        0
-    }
 
     fn holds(&self, s: &u8) -> bool {
         self.lowest <= *s && *s <= self.highest
@@ -76,7 +67,7 @@ impl SymbolTest for ByteTest {
     }
 
     fn is_every(&self) -> bool {
-        *self == EVERY_BYTE
+        *self == Self::EVERY
     }
 
     fn inside(&self) -> u8 {

@@ -6,7 +6,7 @@ ghost use Rattle.symbols.specs.RowTests.{every_row, as_wanted, named_if_wanted, 
 ghost use Rattle.symbols.specs.RowLaws.{every_sound, every_is, row_meetable, row_failable};
 ghost use Rattle.symbols.specs.Rows.{fresh_row};
 
-use crate::rows::{MAX_WIDTH, Row, bit, none_from};
+use crate::rows::{FRESH_ROW, MAX_WIDTH, Row, bit, none_from};
 use crate::symbol_test::SymbolTest;
 use crate::test_list::TestList;
 use refusals::Refusal;
@@ -70,11 +70,22 @@ impl SymbolTest for RowTest {
 
     ghost all_meet = { is_every_row };
 
-    ghost every = { every_row };
+    ghost EVERY = { every_row };
 
-    ghost refusal = { BadRowTest };
+    const EVERY: RowTest = RowTest {
+        lowest: 0,
+        highest: 256,
+        named: [0; 32],
+        wanted: [0; 32],
+    };
 
-    ghost some_symbol = { fresh_row };
+    ghost REFUSAL = { BadRowTest };
+
+    const REFUSAL: Refusal = Refusal::BadRowTest;
+
+    ghost SOME_SYMBOL = { fresh_row };
+
+    const SOME_SYMBOL: Row = FRESH_ROW;
 
     ghost every_sound = { every_sound };
 
@@ -83,23 +94,6 @@ impl SymbolTest for RowTest {
     ghost meetable = { row_meetable };
 
     ghost failable = { row_failable };
-
-    fn every() -> RowTest {
-        RowTest {
-            lowest: 0,
-            highest: 256,
-            named: [0; 32],
-            wanted: [0; 32],
-        }
-    }
-
-    fn refusal() -> Refusal {
-        Refusal::BadRowTest
-    }
-
-    fn some_symbol() -> Row {
-        Row::new()
-    }
 
     fn holds(&self, row: &Row) -> bool {
         let width = row.width();

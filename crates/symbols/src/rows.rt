@@ -17,6 +17,12 @@ pub struct Row {
     bits: [u8; 32],
 }
 
+// A row of width 0 with no hook set.
+pub(crate) const FRESH_ROW: Row = Row {
+    width: 0,
+    bits: [0; 32],
+};
+
 // Whether hook h is set: the bit of value 2^(h mod 8) in byte h / 8.
 pub(crate) fn bit(bytes: &[u8], h: usize) -> bool
     requires { h / 8 < length bytes.now }
@@ -38,10 +44,7 @@ impl Row {
     pub fn new() -> Row
         ensures { result ≡ fresh_row }
     {
-        Row {
-            width: 0,
-            bits: [0; 32],
-        }
+        FRESH_ROW
     }
 
     // A row that keeps this width and these bits.

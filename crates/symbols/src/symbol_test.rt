@@ -22,25 +22,19 @@ pub trait SymbolTest: Copy {
     ghost all_meet: { Self → Bool };
 
     // the test that every symbol meets
-    ghost every: { Self };
+    ghost EVERY: { Self };
+
+    const EVERY: Self;
 
     // why a test that is not sound is refused
-    ghost refusal: { Refusal };
+    ghost REFUSAL: { Refusal };
+
+    const REFUSAL: Refusal;
 
     // some symbol
-    ghost some_symbol: { Self.Symbol };
+    ghost SOME_SYMBOL: { Self.Symbol };
 
-    // The test that every symbol meets.
-    fn every() -> Self
-        ensures { result ≡ every };
-
-    // Why a test that is not sound is refused.
-    fn refusal() -> Refusal
-        ensures { result ≡ refusal };
-
-    // Some symbol.
-    fn some_symbol() -> Self::Symbol
-        ensures { result ≡ some_symbol };
+    const SOME_SYMBOL: Self::Symbol;
 
     // Whether the symbol meets the test.
     fn holds(&self, s: &Self::Symbol) -> bool
@@ -67,10 +61,10 @@ pub trait SymbolTest: Copy {
         ensures { sound self.now ≡ true → all_meet self.now ≡ false → meets self.now result ≡ false };
 
     // the test that every symbol meets is sound
-    ghost every_sound: { sound every ≡ true };
+    ghost every_sound: { sound EVERY ≡ true };
 
     // every symbol meets it
-    ghost every_met: { all_meet every ≡ true };
+    ghost every_met: { all_meet EVERY ≡ true };
 
     // `can_meet` is true of a sound test exactly where some symbol meets it
     ghost meetable: { (b : Self) → sound b ≡ true → Decides (can_meet b) (SomeMeets (meets b)) };

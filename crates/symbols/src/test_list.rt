@@ -1,6 +1,7 @@
 // Lists of tests. One is a kind: its test t is the t-th of the list.
 ghost use Rattle.std.specs.Prelude.{◌≡◌, ◌≤◌, true, not, [], ◌∷◌, length, Some, IfOk, IfSome, vec_len, vec_capacity, slice_get};
 ghost use Rattle.std.specs.List.{list_all};
+ghost use Rattle.std.specs.Option.{option_copied};
 ghost use Rattle.std.proofs.Common.{rules};
 ghost use Rattle.symbols.specs.Lists.{has_at, add_answer, added_to};
 ghost use Rattle.symbols.specs.ListLaws.{past_fails, list_meetable, list_failable, first_met};
@@ -22,7 +23,7 @@ pub struct TestList<T: SymbolTest> {
     ghost some: { 1 ≤ vec_len tests },
     ghost few: { vec_len tests ≤ 64 },
     // the first is the one that every symbol meets
-    ghost first: { slice_get tests.items 0 ≡ Some T.every },
+    ghost first: { slice_get tests.items 0 ≡ Some T.EVERY },
     // each keeps its rules
     ghost sound: { list_all T.sound tests.items ≡ true },
     // there is room for 64, so that adding never allocates
@@ -32,17 +33,17 @@ pub struct TestList<T: SymbolTest> {
 impl<T: SymbolTest> TestList<T> {
     // A kind with room for all its tests, and with test 0 alone.
     pub fn new(heap: Global) -> Result<TestList<T>, AllocError>
-        ensures { IfOk result (λ k. k.tests.items ≡ T.every ∷ []) }
+        ensures { IfOk result (λ k. k.tests.items ≡ T.EVERY ∷ []) }
     {
         let mut tests = Vec::with_capacity(heap, MAX_TESTS)?;
-        tests.push_reserved(T::every());
+        tests.push_reserved(T::EVERY);
         Ok(TestList { tests })
     }
 
     // Adds a test, and tells its number.
     #[tactic(auto, using(crate::proofs::Added::first_push, crate::proofs::Added::all_push))]
     pub fn add(&mut self, test: T) -> Result<u8, Fault>
-        ensures answer { result ≡ add_answer self.old.tests.items (T.sound test) T.refusal }
+        ensures answer { result ≡ add_answer self.old.tests.items (T.sound test) T.REFUSAL }
         ensures after { self.new.tests.items ≡ added_to self.old.tests.items test result }
     {
         let count = self.tests.len();
@@ -50,18 +51,18 @@ impl<T: SymbolTest> TestList<T> {
             return Err(Refusal::KindFull.at(0));
         }
         if !test.is_sound() {
-            return Err(T::refusal().at(0));
+            return Err(T::REFUSAL.at(0));
         }
         self.tests.push_reserved(test);
         Ok(count as u8)
     }
 
     // Test t, if the list has it.
-    fn test_at(&self, t: u8) -> Option<T>
-        ensures test { result ≡ slice_get self.now.tests.items t }
-        ensures sound { IfSome result (λ b. T.sound b ≡ true) }
+    fn test_at(&self, t: u8) -> Option<&T>
+        ensures test { option_copied result ≡ slice_get self.now.tests.items t }
+        ensures sound { IfSome result (λ b. T.sound b.now ≡ true) }
     {
-        self.tests.get(t as usize).copied()
+        self.tests.get(t as usize)
     }
 }
 
@@ -81,13 +82,13 @@ impl<T: SymbolTest> Kind for TestList<T> {
 
     ghost past = { Prim.search (rules, past_fails) };
 
-    ghost every = { λ k s. first_met T.all_meet T.failable T.every T.every_sound T.every_met k.tests.items k.first s };
+    ghost every = { λ k s. first_met T.all_meet T.failable T.EVERY T.every_sound T.every_met k.tests.items k.first s };
 
-    ghost inhabited = { λ k. ∣ T.some_symbol ∣₁ };
+    ghost inhabited = { λ k. ∣ T.SOME_SYMBOL ∣₁ };
 
     ghost meetable = { λ k t. list_meetable T.meetable k.tests.items k.sound t };
 
-    ghost failable = { λ k t. list_failable T.all_meet T.failable T.some_symbol k.tests.items k.sound t };
+    ghost failable = { λ k t. list_failable T.all_meet T.failable T.SOME_SYMBOL k.tests.items k.sound t };
 
     fn tests(&self) -> usize {
         self.tests.len()
@@ -126,7 +127,7 @@ impl<T: SymbolTest> Showing for TestList<T> {
                 true
             }
             None => {
-                *place = T::some_symbol();
+                *place = T::SOME_SYMBOL;
                 true
             }
         }
