@@ -53,6 +53,7 @@ fn is_fill(bytes: &[u8]) -> bool
 }
 
 // The name in an entry; none where the entry is no test's name filled up with 0 bytes.
+// An `if` and no `then_some`: each branch is a case of what the contract says.
 fn entry_name(filled: &Entry) -> Option<&[u8]>
     ensures { EntryName filled.now result }
 {
