@@ -12,7 +12,7 @@ fn prints(rt: &impl Abort, heap: Global, text: &[u8], expected: &str) -> Result<
 
 #[test]
 fn faults(rt: HostRuntime) -> Result<(), Fail> {
-    let table: [(&[u8], &str); 42] = [
+    let table: [(&[u8], &str); 58] = [
         (b"\t", "fault 11 words 0\n"),
         (b"a\r\n", "fault 11 words 1\n"),
         (b"a A", "fault 11 words 2\n"),
@@ -55,6 +55,22 @@ fn faults(rt: HostRuntime) -> Result<(), Fail> {
         (b"a A 9", "fault 11 words 2\n"),
         (b"a ( | c", "fault 13 grammar 4\n"),
         (b"a (c", "fault 15 names 3\n"),
+        (b"{", "fault 11 words 0\n"),
+        (b"\0", "fault 11 words 0\n"),
+        (b"a\x80", "fault 11 words 1\n"),
+        (b"Z", "fault 11 words 0\n"),
+        (b"1a", "fault 12 words 0\n"),
+        (b"a-", "fault 15 names 0\n"),
+        (b"a--9", "fault 15 names 0\n"),
+        (b"voids", "fault 15 names 0\n"),
+        (b"nil-", "fault 15 names 0\n"),
+        (b"((a)", "fault 13 grammar 4\n"),
+        (b"(nil", "fault 13 grammar 4\n"),
+        (b"(void ", "fault 13 grammar 6\n"),
+        (b"(!a\n", "fault 13 grammar 4\n"),
+        (b"a!", "fault 13 grammar 2\n"),
+        (b"a*|", "fault 13 grammar 3\n"),
+        (b"(a)(", "fault 13 grammar 4\n"),
     ];
     for (text, expected) in table {
         prints(&rt, rt.alloc(), text, expected)?;
@@ -64,13 +80,34 @@ fn faults(rt: HostRuntime) -> Result<(), Fail> {
 
 #[test]
 fn listings(rt: HostRuntime) -> Result<(), Fail> {
-    let table: [(&[u8], &str); 13] = [
+    let table: [(&[u8], &str); 19] = [
         (b"void", "node kind test size next far\n0 void - 1 1 -\n"),
         (b"nil", "node kind test size next far\n0 nil - 1 1 0\n"),
         (b"any", "node kind test size next far\n0 leaf 0 1 1 1\n"),
         (b"!any", "node kind test size next far\n0 leaf 3 1 1 -\n"),
         (b"! \n a", "node kind test size next far\n0 leaf 4 1 1 1\n"),
         (b"((b))", "node kind test size next far\n0 leaf 2 1 1 1\n"),
+        (b"!\na", "node kind test size next far\n0 leaf 4 1 1 1\n"),
+        (
+            b"nil**",
+            "node kind test size next far\n0 nil - 1 1 0\n1 repeat - 2 2 0\n2 repeat - 3 3 0\n",
+        ),
+        (
+            b"!a*",
+            "node kind test size next far\n0 leaf 4 1 1 1\n1 repeat - 2 2 0\n",
+        ),
+        (
+            b"(a b)**",
+            "node kind test size next far\n0 leaf 1 1 1 2\n1 leaf 2 1 3 1\n2 chain - 3 3 2\n3 repeat - 4 4 0\n4 repeat - 5 5 0\n",
+        ),
+        (
+            b"a | b | a",
+            "node kind test size next far\n0 leaf 1 1 5 1\n1 leaf 2 1 5 1\n2 choice - 3 5 1\n3 leaf 1 1 5 1\n4 choice - 5 5 1\n",
+        ),
+        (
+            b"a*b",
+            "node kind test size next far\n0 leaf 1 1 1 2\n1 repeat - 2 2 1\n2 leaf 2 1 4 1\n3 chain - 4 4 1\n",
+        ),
         (
             b"void*",
             "node kind test size next far\n0 void - 1 1 -\n1 repeat - 2 2 0\n",
