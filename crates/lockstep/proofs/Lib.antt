@@ -6,3 +6,4 @@ mod Shorts
 mod Adding
 mod Pinned
 mod Words
+mod Sets

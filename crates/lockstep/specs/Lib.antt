@@ -1,3 +1,4 @@
 pub mod Next
 pub mod Far
 pub mod Word
+pub mod Sets

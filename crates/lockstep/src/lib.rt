@@ -7,8 +7,10 @@ ghost use Rattle.lockstep.specs.Word.{OneWord, ShortOfWord};
 
 mod far;
 mod next;
+mod set;
 mod tables;
 
+pub use set::{NUMBERS, NodeSet};
 pub use tables::Tables;
 
 // That a rule has one next and one far is proved here.
