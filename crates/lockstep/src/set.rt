@@ -42,7 +42,7 @@ impl NodeSet {
         }
     }
 
-    // Puts all numbers of another set into this one.
+    // Puts all numbers of another set into this one. By number: one set is written to while the other is read.
     pub fn unite(&mut self, other: &NodeSet)
         ensures { (m : ℕ) → has self.new.words m ≡ has self.old.words m || has other.now.words m }
     {
@@ -51,7 +51,7 @@ impl NodeSet {
         }
     }
 
-    // Whether some number is in this set and in another.
+    // Whether some number is in this set and in another. A loop and no `any`: what it has passed is its invariant.
     #[tactic(auto, using(crate::proofs::Sets::both_in, crate::proofs::Sets::both_out))]
     pub fn meets(&self, other: &NodeSet) -> bool
         ensures { MatchBool result (Meet self.now.words other.now.words) (Apart self.now.words other.now.words) }
