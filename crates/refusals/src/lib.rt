@@ -121,19 +121,28 @@ impl Refusal {
     }
 }
 
-// A layer is printed by its name.
-impl fmt::Display for Layer {
-    ghost output = { λ x. Some (name_of x) };
-
-    fn fmt<W: fmt::Write>(&self, f: &mut fmt::Formatter<W>) -> fmt::Result {
-        f.write_str(match self {
+impl Layer {
+    // The layer's name, as it is printed. Beside `Display`, since it needs no writer and cannot fail.
+    pub fn name(self) -> &'static str
+        ensures { result.now ≡ name_of self }
+    {
+        match self {
             Layer::Words => "words",
             Layer::Grammar => "grammar",
             Layer::Names => "names",
             Layer::Nodes => "nodes",
             Layer::Watch => "watch",
             Layer::Kind => "kind",
-        })
+        }
+    }
+}
+
+// A layer is printed by its name.
+impl fmt::Display for Layer {
+    ghost output = { λ x. Some (name_of x) };
+
+    fn fmt<W: fmt::Write>(&self, f: &mut fmt::Formatter<W>) -> fmt::Result {
+        f.write_str(self.name())
     }
 }
 

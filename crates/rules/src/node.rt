@@ -55,6 +55,20 @@ impl Shape {
             Shape::Void | Shape::Nil | Shape::Join(_) | Shape::Repeat => None,
         }
     }
+
+    // The word for it, as it is printed.
+    fn word(self) -> &'static str
+        ensures { result.now ≡ kind_word self }
+    {
+        match self {
+            Shape::Void => "void",
+            Shape::Nil => "nil",
+            Shape::Leaf(_) => "leaf",
+            Shape::Join(Join::Chain) => "chain",
+            Shape::Join(Join::Choice) => "choice",
+            Shape::Repeat => "repeat",
+        }
+    }
 }
 
 // A shape is printed by its word.
@@ -62,13 +76,6 @@ impl fmt::Display for Shape {
     ghost output = { λ x. Some (kind_word x) };
 
     fn fmt<W: fmt::Write>(&self, f: &mut fmt::Formatter<W>) -> fmt::Result {
-        f.write_str(match self {
-            Shape::Void => "void",
-            Shape::Nil => "nil",
-            Shape::Leaf(_) => "leaf",
-            Shape::Join(Join::Chain) => "chain",
-            Shape::Join(Join::Choice) => "choice",
-            Shape::Repeat => "repeat",
-        })
+        f.write_str(self.word())
     }
 }
