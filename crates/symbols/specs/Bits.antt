@@ -100,17 +100,20 @@ module _ (bytes : List ℕ) (start : ℕ) where
       let found = every_some (λ h. not (bit_of bytes h)) start 256 some in
       (found.0, found.2, not-false (bit_of bytes found.0) found.3)
 
-  -- it is enough to look at the hooks that the bytes hold
-  pub none_held : length bytes ≤ 32 → every_between start (8 * length bytes) (λ h. not (bit_of bytes h)) ≡ none_from bytes start
-  none_held few =
+  -- it is enough that none is among those that the bytes hold
+  pub none_held : ((h : ℕ) → h < 8 * length bytes → start ≤ h → bit_of bytes h ≡ false) → none_from bytes start ≡ true
+  none_held each =
+      none_each (λ h low _. elim (cases_lt h (8 * length bytes)) [
+        | inl held ↦ each h held low
+        | inr beyond ↦ bit_past bytes h (le-div (length bytes) h 8 (omega arith) (omega arith))
+      ])
+
+  -- so looking at those alone tells the same, where there are at most 256
+  pub held_is_all : length bytes ≤ 32 → every_between start (8 * length bytes) (λ h. not (bit_of bytes h)) ≡ none_from bytes start
+  held_is_all few =
       let p = λ (h : ℕ). not (bit_of bytes h) in
       elim (cases_Bool (every_between start (8 * length bytes) p)) [
-        | inl all ↦
-            let none : none_from bytes start ≡ true = none_each (λ h low _. elim (cases_lt h (8 * length bytes)) [
-              | inl held ↦ not-true (bit_of bytes h) (every_at p start (8 * length bytes) all h low held)
-              | inr beyond ↦ bit_past bytes h (le-div (length bytes) h 8 (omega arith) (omega arith))
-            ]) in
-            cc
+        | inl all ↦ let none = none_held (λ h held low. not-true (bit_of bytes h) (every_at p start (8 * length bytes) all h low held)) in cc
         | inr some ↦
             let found = every_some p start (8 * length bytes) some in
             let set : none_from bytes start ≡ false = every_no p start 256 found.0 found.1 (omega (arith, found.2)) found.3 in

@@ -1,5 +1,5 @@
 -- Tests of bytes: which of them some byte meets or fails.
-use Rattle.std.specs.Prelude.{◌≡◌, ℕ, ◌≢◌, true, false, not, Decides, refl}
+use Rattle.std.specs.Prelude.{◌≡◌, ℕ, ◌<◌, ◌≢◌, true, false, not, Decides, refl}
 use Rattle.std.proofs.Common.{inl, inr, arith}
 use Rattle.std.proofs.Math.Bool.{Bool-set}
 use Rattle.std.proofs.Math.Logic.{∥∥₁_elim}
@@ -14,18 +14,18 @@ module _ (b : ByteTest) where
   every_meets : (s : ℕ) → is_every b ≡ true → inside b s ≡ true
   every_meets s h = grind (arith, nat_tests)
 
+  -- byte 0 fails a test whose lowest is above 0
+  low_fails : (b.lowest ≢ 0) → inside b 0 ≡ false
+  low_fails h = grind (arith, nat_tests)
+
+  -- byte 255 fails a test whose highest is below 255
+  high_fails : b.highest < 255 → inside b 255 ≡ false
+  high_fails h = grind (arith, nat_tests)
+
   module _ (sound : is_sound b ≡ true) where
     -- the lowest byte of a sound test meets it
     lowest_meets : inside b b.lowest ≡ true
     lowest_meets = grind (arith, nat_tests)
-
-    -- byte 0 fails a test whose lowest is above 0
-    low_fails : (b.lowest ≢ 0) → inside b 0 ≡ false
-    low_fails h = grind (arith, nat_tests)
-
-    -- byte 255 fails a sound test from 0 that is not the one from 0 to 255
-    high_fails : b.lowest ≡ 0 → is_every b ≡ false → inside b 255 ≡ false
-    high_fails low e = grind (arith, nat_tests)
 
     -- some byte meets every sound test
     pub byte_meetable : Decides true (SomeMeets (inside b))
@@ -35,7 +35,7 @@ module _ (b : ByteTest) where
     pub byte_failable : Decides (not (is_every b)) (SomeFails (inside b))
     byte_failable = (
       λ e. elim (cases_eq b.lowest 0) [
-        | inl z ↦ ∣ (255, high_fails z (grind (arith, nat_tests))) ∣₁
+        | inl z ↦ ∣ (255, high_fails (grind (arith, nat_tests))) ∣₁
         | inr z ↦ ∣ (0, low_fails z) ∣₁
       ],
       λ h. ∥∥₁_elim h (Bool-set (not (is_every b)) true) (λ x. elim (cases_Bool (is_every b)) [

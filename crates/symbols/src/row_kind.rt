@@ -1,5 +1,5 @@
 // The kind of rows: a test is a lowest and a highest width, and wanted bits of some named hooks.
-ghost use Rattle.std.specs.Prelude.{◌≡◌, ◌<◌};
+ghost use Rattle.std.specs.Prelude.{◌≡◌, ◌<◌, true};
 ghost use Rattle.refusals.specs.declared.Refusal.TheVariants.{BadRowTest};
 ghost use Rattle.symbols.specs.Hooks.{every_between};
 ghost use Rattle.symbols.specs.RowTests.{every_row, as_wanted, named_if_wanted, row_meets, is_sound, wants_below, is_every_row};
@@ -114,8 +114,12 @@ impl SymbolTest for RowTest {
         self.lowest == 0 && self.highest as usize == MAX_WIDTH && none_from(&self.named, 0)
     }
 
+    // Clauses of its own stand in place of the trait's, so that one is said again.
     #[tactic(auto, using(crate::specs::RowLaws::inside_meets))]
-    fn inside(&self) -> Row {
+    fn inside(&self) -> Row
+        ensures row { result ≡ record { width = self.now.highest; bits = self.now.wanted } }
+        ensures meets { is_sound self.now ≡ true → wants_below self.now ≡ true → row_meets self.now result ≡ true }
+    {
         Row::kept(self.highest, self.wanted)
     }
 
