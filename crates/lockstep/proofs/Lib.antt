@@ -1,3 +1,4 @@
+mod Asking
 mod Pushes
 mod Handing
 pub mod Later

@@ -4,6 +4,7 @@ ghost use Rattle.rules.specs.Nodes.{form_at, size_at};
 ghost use Rattle.lockstep.specs.Next.{NextTable};
 ghost use Rattle.lockstep.specs.Far.{sum, smaller, short_of, IsShort, AtMost};
 
+use crate::asked::Asked;
 use rules::{Form, Join, Rule};
 use symbols::Kind;
 
@@ -29,12 +30,18 @@ fn least(a: Option<u32>, b: Option<u32>) -> Option<u32>
 
 // Short of p, from short of the nodes before it.
 // p is one of the rule's nodes: asked here and of `hand_down`, since a type of such numbers would only carry the rule along.
-fn short_at<K: Kind>(short: &[Option<u32>], rule: &Rule, kind: &K, p: usize) -> Option<u32>
+fn short_at<K: Kind>(
+    short: &[Option<u32>],
+    rule: &Rule,
+    kind: &mut Asked<K>,
+    p: usize,
+) -> Option<u32>
     requires within { p < length rule.now.nodes.items }
     requires before { length short.now ≡ p }
     requires low { (q : ℕ) → q < p → AtMost (size_at rule.now.nodes.items q) (slice_index_or short.now q None) }
-    ensures value { result ≡ short_of (K.Kind.can_meet kind.now) (form_at rule.now.nodes.items p) (λ q. slice_index_or short.now q None) }
+    ensures value { result ≡ short_of (K.Kind.can_meet kind.old.kind.now) (form_at rule.now.nodes.items p) (λ q. slice_index_or short.now q None) }
     ensures low { AtMost (size_at rule.now.nodes.items p) result }
+    ensures kind { kind.new.kind.now ≡ kind.old.kind.now }
 {
     match rule.form(p) {
         Form::Void => None,
@@ -54,9 +61,10 @@ pub(crate) fn fill_short<K: Kind>(short: &mut Vec<Option<u32>>, rule: &Rule, kin
     ensures len { vec_len short.new ≡ length rule.now.nodes.items }
     ensures capacity { vec_capacity short.new ≡ vec_capacity short.old }
 {
+    let mut asked = Asked::new(kind);
     short.clear();
     for p in 0..rule.nodes().len() {
-        let own = short_at(short, rule, kind, p);
+        let own = short_at(short, rule, &mut asked, p);
         short.push_reserved(own);
     }
 }

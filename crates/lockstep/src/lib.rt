@@ -5,6 +5,7 @@ ghost use Rattle.lockstep.specs.Next.{OneNext};
 ghost use Rattle.lockstep.specs.Far.{OneFar};
 ghost use Rattle.lockstep.specs.Word.{OneWord, ShortOfWord};
 
+mod asked;
 mod far;
 mod next;
 mod set;
