@@ -3,7 +3,7 @@ use Rattle.std.specs.Prelude.{◌≡◌, ℕ, zero, suc, Bool, true, false, not,
 use Rattle.lockstep.specs.Next.{NextTable}
 use Rattle.lockstep.specs.Far.{FarTable}
 use Rattle.refusals.specs.declared.Fault.{Fault}
-use Rattle.refusals.specs.Table.{fault_text}
+use Rattle.refusals.specs.Table.{number_of, layer_of, name_of}
 use Rattle.rules.specs.declared.node.Node.{Node}
 use Rattle.rules.specs.Nodes.{no_node, kind_word, leaf_test}
 use Rattle.rule_text.specs.Reading.{Taken, Refused}
@@ -35,9 +35,9 @@ abbrev pub rows : List Node → List ℕ → List (Option ℕ) → ℕ → List 
 rows ns next far zero = []
 rows ns next far (suc k) = rows ns next far k ++ row k (slice_index_or ns k no_node) (slice_index next k) (slice_index_or far k None)
 
--- the line of a fault: its number, its layer and its place after the word `fault`
+-- the line of a fault
 abbrev pub fault_line : Fault → List ℕ
-fault_line f = line (codes "fault" ∷ fault_text f ∷ [])
+fault_line f = line (codes "fault" ∷ decimal (number_of f.refusal) ∷ name_of (layer_of f.refusal) ∷ decimal f.place ∷ [])
 
 -- the header, and a line for each node
 abbrev pub listing : List Node → List ℕ → List (Option ℕ) → List ℕ

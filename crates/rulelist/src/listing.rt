@@ -56,6 +56,7 @@ impl fmt::Display for Line {
 }
 
 // The line of a fault.
+#[tactic(auto, using(crate::proofs::Faults::printed))]
 fn fault_line(heap: Global, fault: Fault) -> Result<String, AllocError>
     ensures { IfOk result (λ s. string_bytes s ≡ fault_line_of fault) }
 {
